@@ -1,0 +1,4 @@
+pub mod Rows
+pub mod Numerals
+pub mod Records
+pub mod Meaning
