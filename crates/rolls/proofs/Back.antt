@@ -15,7 +15,7 @@ use Rattle.std.specs.declared.option.Option.{Option}
 use Rattle.std.specs.declared.option.Option.the-variants.{Some, None}
 use Rattle.std.specs.declared.result.Result.{Result}
 use Rattle.std.specs.declared.result.Result.the-variants.{Ok, Err}
-use Rattle.rolls.specs.Rows.{Row, Within}
+use Rattle.rolls.specs.Rows.{Row, WithinRow}
 use Rattle.rolls.specs.Numerals.{bytesOf, number}
 use Rattle.rolls.specs.Records.{Refusal, Check, answered, firstFault, inside, held, centsChecks, fieldChecks, fieldOf, part, lengthChecks, monthChecks, ownerChecks, markChecks, rowIn, reading, encoded}
 use Rattle.rolls.proofs.Numerals.{number-back}
@@ -29,7 +29,7 @@ fits-64 : (z : ℤ) → natAbs z ≤ 800000000000000 → (SFits w64 z) × (ofZ w
 fits-64 (pos n) h = (record { sfits = omega arith }, omega arith)
 fits-64 (negsuc n) h = (record { sfits = omega arith }, omega arith)
 
-module _ (r : Row) (within : Within (r .month) (r .owner) (r .mark) (r .cents)) (rest : List ℕ) where
+module _ (r : Row) (within : WithinRow r) (rest : List ℕ) where
   abbrev bs : List ℕ
   bs = encoded r ++ rest
 
@@ -47,6 +47,9 @@ module _ (r : Row) (within : Within (r .month) (r .owner) (r .mark) (r .cents)) 
       let f = fits-64 (r .cents) (within .4) in
       ap (toZ w64) (number-back 8 (ofZ w64 (r .cents)) (f .1)) ∙ toZ-ofZ w64 (r .cents) (f .0)
 
+  pub row-back : rowIn bs ≡ r
+  row-back = same-row _ _ _ _ _ _ _ _ m o k z
+
   month-clear : firstFault (monthChecks bs) ≡ None
   month-clear = rw (in-range 0 359 (number (bytesOf 2 (r .month))) (r .month) m (omega arith) (within .0))
 
@@ -62,7 +65,7 @@ module _ (r : Row) (within : Within (r .month) (r .owner) (r .mark) (r .cents)) 
   pub reads-back : (place : ℕ) → reading place bs ≡ Ok r
   reads-back place =
       let clear : firstFault (lengthChecks bs ++ (monthChecks bs ++ (ownerChecks bs ++ (markChecks bs ++ centsChecks (part 16 8 bs))))) ≡ None =
-          passes-append (lengthChecks bs) (monthChecks bs ++ (ownerChecks bs ++ (markChecks bs ++ centsChecks (part 16 8 bs)))) (first-clear bs place (omega arith))
-          (passes-append (monthChecks bs) (ownerChecks bs ++ (markChecks bs ++ centsChecks (part 16 8 bs))) month-clear
-          (passes-append (ownerChecks bs) (markChecks bs ++ centsChecks (part 16 8 bs)) owner-clear (passes-append (markChecks bs) (centsChecks (part 16 8 bs)) mark-clear cents-clear))) in
-      ap (answered place (rowIn bs)) clear ∙ ap Ok (same-row _ _ _ _ _ _ _ _ m o k z)
+      passes-append (lengthChecks bs) (monthChecks bs ++ (ownerChecks bs ++ (markChecks bs ++ centsChecks (part 16 8 bs)))) (first-clear bs place (omega arith))
+      (passes-append (monthChecks bs) (ownerChecks bs ++ (markChecks bs ++ centsChecks (part 16 8 bs))) month-clear
+      (passes-append (ownerChecks bs) (markChecks bs ++ centsChecks (part 16 8 bs)) owner-clear (passes-append (markChecks bs) (centsChecks (part 16 8 bs)) mark-clear cents-clear))) in
+      ap (answered place (rowIn bs)) clear ∙ ap Ok row-back

@@ -3,3 +3,5 @@ pub mod Encoding
 pub mod Reading
 pub mod Wholes
 pub mod Back
+pub mod Places
+pub mod Recorded

@@ -32,7 +32,7 @@ bytesOf-above zero c n = refl
 bytesOf-above (suc w) c n =
     let up : c * 256 ^ suc w ≡ c * 256 * 256 ^ w = ap (λ x. c * x) (pow-suc 256 w ∙ mul-comm (256 ^ w) 256) ∙ sym (mul-assoc c 256 (256 ^ w)) in
     let head : (c * 256 * 256 ^ w + n) / 256 ^ w % 256 ≡ n / 256 ^ w % 256 =
-        ap (λ x. x % 256) (mul-add-div-right (power-above w) (c * 256) n) ∙ mul-add-mod-self-right c 256 (n / 256 ^ w) in
+    ap (λ x. x % 256) (mul-add-div-right (power-above w) (c * 256) n) ∙ mul-add-mod-self-right c 256 (n / 256 ^ w) in
     rw up (ap (λ b. b ∷ bytesOf w (c * 256 * 256 ^ w + n)) head ∙ ap (λ bs. n / 256 ^ w % 256 ∷ bs) (bytesOf-above w (c * 256) n))
 
 pub number-below : (bs : List ℕ) → All (λ b. b < 256) bs → number bs < 256 ^ length bs
@@ -43,7 +43,7 @@ pub bytesOf-number : (bs : List ℕ) → All (λ b. b < 256) bs → bytesOf (len
 bytesOf-number [] h = refl
 bytesOf-number (b ∷ bs) h =
     let first : (b * 256 ^ length bs + number bs) / 256 ^ length bs % 256 ≡ b =
-        ap (λ x. x % 256) (digits-div b (number-below bs (h .1))) ∙ mod-eq-of-lt (h .0) in
+    ap (λ x. x % 256) (digits-div b (number-below bs (h .1))) ∙ mod-eq-of-lt (h .0) in
     ap (λ x. x ∷ bytesOf (length bs) (b * 256 ^ length bs + number bs)) first
     ∙ ap (λ xs. b ∷ xs) (bytesOf-above (length bs) b (number bs) ∙ bytesOf-number bs (h .1))
 

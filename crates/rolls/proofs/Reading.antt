@@ -76,7 +76,6 @@ passes place n x cs = passed place n x (firstFault cs)
 pub passes-append : (cs ds : List Check) → firstFault cs ≡ None → firstFault ds ≡ None → firstFault (cs ++ ds) ≡ None
 passes-append cs ds p q = firstFault-pass cs ds p ∙ q
 
-
 -- the parts of a record of bs, which are long enough for one
 module _ (bs : List ℕ) (place : ℕ) (h : 27 ≤ length bs) where
   width-part : (p w : ℕ) → p + (3 + w) ≤ 27 → length (part p w bs) - 3 ≡ w

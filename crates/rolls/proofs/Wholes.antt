@@ -64,7 +64,7 @@ module _ (bs : List ℕ) (place : ℕ) (h : 27 ≤ length bs) where
     pub all-granted : _≡_ {A = Result Row Refusal} (Ok (record { month = m; owner = o; mark = k; cents = z })) (reading place bs)
     all-granted =
         let clear : firstFault (lengthChecks bs ++ (monthChecks bs ++ (ownerChecks bs ++ (markChecks bs ++ centsChecks (part 16 8 bs))))) ≡ None =
-            passes-append (lengthChecks bs ++ (monthChecks bs ++ (ownerChecks bs ++ markChecks bs))) (centsChecks (part 16 8 bs)) (to-mark m o k a b c) (passes place z (toZ w64 (held (part 16 8 bs))) (centsChecks (part 16 8 bs)) d .0) in
+        passes-append (lengthChecks bs ++ (monthChecks bs ++ (ownerChecks bs ++ markChecks bs))) (centsChecks (part 16 8 bs)) (to-mark m o k a b c) (passes place z (toZ w64 (held (part 16 8 bs))) (centsChecks (part 16 8 bs)) d .0) in
         let m′ : held (part 0 2 bs) ≡ m = field-clear bs place h 1 0 2 0 359 m (omega arith) a .1 in
         let o′ : held (part 5 1 bs) ≡ o = field-clear bs place h 2 5 1 0 15 o (omega arith) b .1 in
         let k′ : held (part 9 4 bs) ≡ k = field-clear bs place h 3 9 4 1 8192 k (omega arith) c .1 in

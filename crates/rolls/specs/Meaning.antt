@@ -2,14 +2,14 @@
 use Prim.Native.Nat.{ℕ}
 use Rattle.std.specs.declared.result.Result.{Result}
 use Rattle.std.specs.declared.result.Result.the-variants.{Ok, Err}
-use Rattle.rolls.specs.Rows.{Row}
+use Rattle.rolls.specs.Rows.{Row, rowOf}
 use Rattle.rolls.specs.Records.{Refusal}
 use Rattle.rolls.specs.declared.line.Line.{Line}
 use Rattle.rolls.specs.declared.fault.ArchiveFault.{ArchiveFault}
 use Rattle.rolls.specs.declared.fault.ArchiveFault.the-variants.{Short, Heading, Value}
 
 abbrev pub row : Line → Row
-row l = record { month = l .month; owner = l .owner; mark = l .mark; cents = l .cents }
+row l = rowOf (l .month) (l .owner) (l .mark) (l .cents)
 
 -- each refusal by its number, with the record's place
 abbrev pub refusal : ArchiveFault → Refusal

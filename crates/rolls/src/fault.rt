@@ -8,3 +8,10 @@ pub enum ArchiveFault {
     // A field's number is outside its limits.
     Value { place: usize },
 }
+
+// Why a roll does not take a line.
+#[derive(Clone, Copy, PartialEq, Eq, Debug)]
+pub enum RollFault {
+    // No line is free.
+    Full,
+}

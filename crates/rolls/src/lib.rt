@@ -1,9 +1,20 @@
 // Lines, the rolls that keep them, and the archive they are written to.
+mod archive;
+mod archive_roll;
 mod fault;
 mod line;
+mod make;
 mod record;
+mod roll;
+mod table;
+mod table_roll;
 
-
+pub use archive::ArchiveRoll;
+pub use archive_roll::ArchiveRollRoll;
 pub use fault::ArchiveFault;
+pub use fault::RollFault;
 pub use line::Line;
 pub use record::read_record;
+pub use roll::Roll;
+pub use table::TableRoll;
+pub use table_roll::TableRollRoll;

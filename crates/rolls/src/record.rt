@@ -25,10 +25,33 @@ impl Line {
         let mark = u32::from(self.mark).to_be_bytes();
         let cents = self.cents.to_be_bytes();
         [
-            1, 0, 2, month[0], month[1],
-            2, 0, 1, self.owner,
-            3, 0, 4, mark[0], mark[1], mark[2], mark[3],
-            4, 0, 8, cents[0], cents[1], cents[2], cents[3], cents[4], cents[5], cents[6], cents[7],
+            1,
+            0,
+            2,
+            month[0],
+            month[1],
+            2,
+            0,
+            1,
+            self.owner,
+            3,
+            0,
+            4,
+            mark[0],
+            mark[1],
+            mark[2],
+            mark[3],
+            4,
+            0,
+            8,
+            cents[0],
+            cents[1],
+            cents[2],
+            cents[3],
+            cents[4],
+            cents[5],
+            cents[6],
+            cents[7],
         ]
     }
 }

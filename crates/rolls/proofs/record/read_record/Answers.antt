@@ -17,17 +17,17 @@ returns-in-Break-month c =
 pub returns-in-Break-owner : need.returns-in-Break-owner
 returns-in-Break-owner c =
     let p = err-from-errBy (c .from-residual-in-Break-owner .result) (c .from-residual-in-Break-owner .ensures .1) in
-    rw (p .1, p .2) (record { read = owner-stops (c .args .bytes .now) (c .args .place) (c .if-bytes-lt27 .left) _ _ (c .in-Continue-month .ensures tt .answer)  (c .in-Break-owner .ensures tt .answer); only-its-own-bytes = tt })
+    rw (p .1, p .2) (record { read = owner-stops (c .args .bytes .now) (c .args .place) (c .if-bytes-lt27 .left) _ _ (c .in-Continue-month .ensures tt .answer) (c .in-Break-owner .ensures tt .answer); only-its-own-bytes = tt })
 
 pub returns-in-Break-mark : need.returns-in-Break-mark
 returns-in-Break-mark c =
     let p = err-from-errBy (c .from-residual-in-Break-mark .result) (c .from-residual-in-Break-mark .ensures .1) in
-    rw (p .1, p .2) (record { read = mark-stops (c .args .bytes .now) (c .args .place) (c .if-bytes-lt27 .left) _ _ _ (c .in-Continue-month .ensures tt .answer) (c .in-Continue-owner .ensures tt .answer)  (c .in-Break-mark .ensures tt .answer); only-its-own-bytes = tt })
+    rw (p .1, p .2) (record { read = mark-stops (c .args .bytes .now) (c .args .place) (c .if-bytes-lt27 .left) _ _ _ (c .in-Continue-month .ensures tt .answer) (c .in-Continue-owner .ensures tt .answer) (c .in-Break-mark .ensures tt .answer); only-its-own-bytes = tt })
 
 pub returns-in-Break-cents : need.returns-in-Break-cents
 returns-in-Break-cents c =
     let p = err-from-errBy (c .from-residual-in-Break-cents .result) (c .from-residual-in-Break-cents .ensures .1) in
-    rw (p .1, p .2) (record { read = cents-stops (c .args .bytes .now) (c .args .place) (c .if-bytes-lt27 .left) _ _ _ _ (c .in-Continue-month .ensures tt .answer) (c .in-Continue-owner .ensures tt .answer) (c .in-Continue-mark .ensures tt .answer)  (c .in-Break-cents .ensures tt .answer); only-its-own-bytes = tt })
+    rw (p .1, p .2) (record { read = cents-stops (c .args .bytes .now) (c .args .place) (c .if-bytes-lt27 .left) _ _ _ _ (c .in-Continue-month .ensures tt .answer) (c .in-Continue-owner .ensures tt .answer) (c .in-Continue-mark .ensures tt .answer) (c .in-Break-cents .ensures tt .answer); only-its-own-bytes = tt })
 
 pub returns : need.returns
 returns c =
