@@ -5,3 +5,5 @@ pub mod Wholes
 pub mod Back
 pub mod Places
 pub mod Recorded
+pub mod Writing
+pub mod Adding

@@ -6,3 +6,6 @@ pub mod Rolls
 pub mod Archives
 pub mod Tables
 pub mod ArchiveRolls
+pub mod Pages
+pub mod Summaries
+pub mod Tallies

@@ -4,10 +4,13 @@ mod archive_roll;
 mod fault;
 mod line;
 mod make;
+mod page;
 mod record;
 mod roll;
+mod sums;
 mod table;
 mod table_roll;
+mod tally;
 
 pub use archive::ArchiveRoll;
 pub use archive_roll::ArchiveRollRoll;
