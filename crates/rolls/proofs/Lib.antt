@@ -7,3 +7,5 @@ pub mod Places
 pub mod Recorded
 pub mod Writing
 pub mod Adding
+pub mod Counting
+pub mod Bounds

@@ -5,7 +5,12 @@ use Prim.Native.Nat.{ℕ, _+_, _*_, _≤_, _<_}
 use lib.IntN.{natAbs, pos}
 use lib.ListN.{getD, length}
 use Rattle.rolls.specs.Rows.{Row}
-use Rattle.rolls.specs.Summaries.{sumOf, countOf}
+use Rattle.std.specs.declared.option.Option.the-variants.{Some, None}
+use Rattle.std.specs.declared.result.Result.{Result}
+use Rattle.std.specs.declared.result.Result.the-variants.{Ok, Err}
+use Rattle.rolls.specs.Meaning.{refusal}
+use Rattle.rolls.specs.Summaries.{Contents, sumOf, countOf}
+use Rattle.rolls.specs.declared.fault.ArchiveFault.{ArchiveFault}
 use Rattle.rolls.specs.declared.sums.Sums.{Sums}
 
 -- each month has sixteen places, one for each owner
@@ -21,3 +26,8 @@ pub record Tallied (s : Sums) (rows : List Row) : Type 0 where
 pub record Room (s : Sums) : Type 0 where
   pub cents : (month owner : ℕ) → month < 360 → owner < 16 → natAbs (getD (s .cents) (slot month owner) (pos 0)) ≤ 1940800000000000000
   pub lines : (month owner : ℕ) → month < 360 → owner < 16 → getD (s .lines) (slot month owner) 0 ≤ 2426
+
+-- what reading an archive answers: how many records it has, or why the first that cannot be read cannot
+abbrev pub Ends : Result ℕ ArchiveFault → Contents → Type 0
+Ends (Ok n) c = (c .fault ≡ None) × (n ≡ length (c .rows))
+Ends (Err e) c = c .fault ≡ Some (refusal e)

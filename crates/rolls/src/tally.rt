@@ -2,12 +2,15 @@
 ghost use mathlib.Core.List.{List, [], _∷_, _++_};
 ghost use mathlib.Core.Path.{_≡_};
 ghost use Prim.Native.Nat.{_≤_};
+ghost use Rattle.std.specs.shelf.Lists.{All};
 ghost use lib.ListN.{length};
-ghost use Rattle.rolls.specs.Meaning.{row, refusal};
+ghost use Rattle.rolls.specs.Meaning.{row};
 ghost use Rattle.rolls.specs.Rows.{Row, WithinRow};
 ghost use Rattle.rolls.specs.Summaries.{contents};
-ghost use Rattle.rolls.specs.Tallies.{Tallied, Room};
+ghost use Rattle.rolls.specs.Tallies.{Tallied, Room, Ends};
+use crate::fault::ArchiveFault;
 use crate::line::Line;
+use crate::record::read_record;
 use crate::sums::Sums;
 
 impl Sums {
@@ -29,4 +32,22 @@ impl Sums {
         self.cents[slot] += line.cents;
         self.lines[slot] += 1;
     }
+}
+
+// Counts in each record up to the first that cannot be read.
+pub(crate) fn tally(archive: &[u8], sums: &mut Sums) -> Result<usize, ArchiveFault>
+    requires short { ⌜ length (now archive) ≤ 65529 ⌝ }
+    requires empty { ⌜ Tallied (now sums) [] ⌝ }
+    ensures ends { λ r. ⌜ Ends r (contents (now (archive .entry))) ⌝ }
+    ensures sums { λ _. ⌜ Tallied (now (sums .exit)) (contents (now (archive .entry)) .rows) ⌝ }
+    ensures within { λ _. ⌜ All WithinRow (contents (now (archive .entry)) .rows) ⌝ }
+    ensures few { λ _. ⌜ length (contents (now (archive .entry)) .rows) ≤ 2427 ⌝ }
+{
+    let mut place = 0;
+    while place * 27 < archive.len() {
+        let line = read_record(&archive[place * 27..], place)?;
+        sums.add(line);
+        place += 1;
+    }
+    Ok(place)
 }
