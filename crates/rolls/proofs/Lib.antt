@@ -9,3 +9,4 @@ pub mod Writing
 pub mod Adding
 pub mod Counting
 pub mod Bounds
+pub mod Fitting

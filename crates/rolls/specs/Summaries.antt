@@ -46,7 +46,7 @@ sumOf month owner [] = pos 0
 sumOf month owner (r ∷ rows) = cond (of month owner r) (r .cents) (pos 0) +ℤ sumOf month owner rows
 
 -- the texts of 0 to n - 1, one after the other
-abbrev pub upTo : ℕ → (ℕ → List ℕ) → List ℕ
+unfoldable pub upTo : ℕ → (ℕ → List ℕ) → List ℕ
 upTo zero f = []
 upTo (suc n) f = upTo n f ++ f n
 

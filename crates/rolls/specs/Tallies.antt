@@ -1,7 +1,9 @@
 -- What the sums by month and owner hold of a list of rows.
 use mathlib.Core.Path.{_≡_}
-use mathlib.Core.List.{List}
+use mathlib.Core.Bool.{cond}
+use mathlib.Core.List.{List, []}
 use Prim.Native.Nat.{ℕ, _+_, _*_, _≤_, _<_}
+use lib.Dec.{ltb}
 use lib.IntN.{natAbs, pos}
 use lib.ListN.{getD, length}
 use Rattle.rolls.specs.Rows.{Row}
@@ -9,7 +11,7 @@ use Rattle.std.specs.declared.option.Option.the-variants.{Some, None}
 use Rattle.std.specs.declared.result.Result.{Result}
 use Rattle.std.specs.declared.result.Result.the-variants.{Ok, Err}
 use Rattle.rolls.specs.Meaning.{refusal}
-use Rattle.rolls.specs.Summaries.{Contents, sumOf, countOf}
+use Rattle.rolls.specs.Summaries.{Contents, sumOf, countOf, pairText, upTo}
 use Rattle.rolls.specs.declared.fault.ArchiveFault.{ArchiveFault}
 use Rattle.rolls.specs.declared.sums.Sums.{Sums}
 
@@ -31,3 +33,13 @@ pub record Room (s : Sums) : Type 0 where
 abbrev pub Ends : Result ℕ ArchiveFault → Contents → Type 0
 Ends (Ok n) c = (c .fault ≡ None) × (n ≡ length (c .rows))
 Ends (Err e) c = c .fault ≡ Some (refusal e)
+
+-- the lines of the page as the sums give them
+abbrev pub slotLine : Sums → ℕ → ℕ → List ℕ
+slotLine s month owner = cond (ltb 0 (getD (s .lines) (slot month owner) 0)) (pairText month owner (getD (s .cents) (slot month owner) (pos 0))) []
+
+abbrev pub slotLines : Sums → ℕ → List ℕ
+slotLines s month = upTo 16 (slotLine s month)
+
+abbrev pub allLines : Sums → List ℕ
+allLines s = upTo 360 (slotLines s)

@@ -7,7 +7,7 @@ ghost use Rattle.rolls.specs.Summaries.{pairText};
 ghost use Rattle.std.specs.Written.{decimal, signed};
 
 // One byte.
-fn put(page: &mut [u8], from: usize, byte: u8) -> usize
+pub(crate) fn put(page: &mut [u8], from: usize, byte: u8) -> usize
     requires { ⌜ from < length (now page) ⌝ }
     ensures { λ r. ⌜ Wrote (now (page .entry)) from (byte ∷ []) (now (page .exit)) r ⌝ }
 {
