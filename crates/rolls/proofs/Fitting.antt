@@ -118,9 +118,11 @@ allLines-are s rows t =
     line m o hm ho = rw (t .cents m o hm ho, t .lines m o hm ho)
 
 -- text that is laid at the start of a page
-pub laid-first : (page text after : List ℕ) (to : ℕ) → Wrote page 0 text after to → (to ≡ length text) × (after ≡ text ++ drop to page)
+pub laid-first : (page text after : List ℕ) (to : ℕ) → Wrote page 0 text after to → (to ≡ length text) × (after ≡ text ++ drop to page) × (to ≤ length page)
 laid-first page text after to w =
-    (omega (arith, w .end), sym (take-append-drop to after) ∙ ap (λ xs. xs ++ drop to after) (w .front) ∙ ap (λ xs. text ++ xs) (w .rest))
+    let count : to ≡ length text = omega (arith, w .end) in
+    let whole : after ≡ text ++ drop to page = sym (take-append-drop to after) ∙ ap (λ xs. xs ++ drop to after) (w .front) ∙ ap (λ xs. text ++ xs) (w .rest) in
+    (count, whole, omega (arith, w .long, ap length whole, length-append text (drop to page)))
 
 pub short-archive : (bs : List ℕ) → length bs ≤ 65529 → summaryText bs ≡ pageText (contents bs)
 short-archive bs h = let short : ltb 65529 (length bs) ≡ false = le-ltb 65529 (length bs) h in ap (λ b. cond b (codes "too long\n") (pageText (contents bs))) short

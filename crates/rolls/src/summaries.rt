@@ -102,6 +102,7 @@ fn stopped(page: &mut [u8], from: usize, fault: ArchiveFault) -> usize
 pub fn summary(archive: &[u8], page: &mut [u8; 65536]) -> usize
     ensures count { λ r. ⌜ r ≡ length (summaryText (now (archive .entry))) ⌝ }
     ensures text { λ r. ⌜ now (page .exit) ≡ summaryText (now (archive .entry)) ++ drop r (now (page .entry)) ⌝ }
+    ensures page_suffices { λ r. ⌜ r ≤ 65536 ⌝ }
 {
     if archive.len() > 65529 {
         return words(page, 0, b"too long\n");

@@ -44,7 +44,7 @@ returns-in-Ok c =
         short-archive bs (c .if-archive-gt65529 .left) ∙ rw (lines, e .0, e .1) refl in
     let w = laid-first (c .args .page .now) (codes "month owner cents\n" ++ (allLines (c .tally-read .last .sums) ++ closing (c .in-Ok .count) None)) (c .ended .last .page) (c .ended .result)
         (wrote-then (c .words-at .ensures) (wrote-then (c .all-lines-at .ensures) (c .ended .ensures))) in
-    rw text (record { count = w .0; text = w .1 })
+    rw text (record { count = w .0; text = w .1; page-suffices = omega (arith, w .2, c .told-page) })
 
 pub returns-in-Err : need.returns-in-Err
 returns-in-Err c =
@@ -56,4 +56,4 @@ returns-in-Err c =
     let text : summaryText bs ≡ codes "month owner cents\n" ++ (allLines (c .tally-read .last .sums) ++ last) = short-archive bs (c .if-archive-gt65529 .left) ∙ rw (lines, e) refl in
     let w = laid-first (c .args .page .now) (codes "month owner cents\n" ++ (allLines (c .tally-read .last .sums) ++ last)) (c .stopped .last .page) (c .stopped .result)
         (wrote-then (c .words-at .ensures) (wrote-then (c .all-lines-at .ensures) (c .stopped .ensures))) in
-    rw text (record { count = w .0; text = w .1 })
+    rw text (record { count = w .0; text = w .1; page-suffices = omega (arith, w .2, c .told-page) })
