@@ -66,6 +66,7 @@ module _ (s : Sums) (rows : List Row) (r : Row) (within : WithinRow r) (wide : l
           getD-set-other (s .cents) at (slot m o) (getD (s .cents) at (pos 0) +ℤ r .cents) (pos 0) (p .1)
           ∙ t .cents m o hm ho
           ∙ omega (arith, ints, none, sumOf-push m o rows r)
+
       at-lines : (m o : ℕ) → m < 360 → o < 16 → ((of m o r ≡ true) × (slot m o ≡ at)) ⊎ ((of m o r ≡ false) × (slot m o ≢ at))
           → getD (set (s .lines) at (getD (s .lines) at 0 + 1)) (slot m o) 0 ≡ countOf m o (rows ++ r ∷ [])
       at-lines m o hm ho (inl p) =

@@ -76,8 +76,12 @@ pairs-bound [] =
     omega (arith, sumTo-none 360)
 pairs-bound (r ∷ rows) =
     let month : (m : ℕ) → m < 360 → sumTo 16 (λ o. countOf m o (r ∷ rows)) ≤ cond (eqb (r .month) m) 1 0 + sumTo 16 (λ o. countOf m o rows) =
-        λ m lt. omega (arith, own-month m r, sumTo-add 16 (λ o. cond (of m o r) 1 0) (λ o. countOf m o rows),
-            sumTo-le 16 (λ o. countOf m o (r ∷ rows)) (λ o. cond (of m o r) 1 0 + countOf m o rows) (λ o h. omega (arith, sumBy-cons (λ x. cond (of m o x) 1 0) r rows))) in
+    λ m lt. omega (
+      arith,
+      own-month m r,
+      sumTo-add 16 (λ o. cond (of m o r) 1 0) (λ o. countOf m o rows),
+      sumTo-le 16 (λ o. countOf m o (r ∷ rows)) (λ o. cond (of m o r) 1 0 + countOf m o rows) (λ o h. omega (arith, sumBy-cons (λ x. cond (of m o x) 1 0) r rows)),
+    ) in
     let all : sumTo 360 (λ m. sumTo 16 (λ o. countOf m o (r ∷ rows))) ≤ sumTo 360 (λ m. cond (eqb (r .month) m) 1 0 + sumTo 16 (λ o. countOf m o rows)) = sumTo-le 360 _ _ month in
     omega (arith, sumTo-add 360 (λ m. cond (eqb (r .month) m) 1 0) (λ m. sumTo 16 (λ o. countOf m o rows)), sumTo-point (r .month) 360, at-most-one (ltb (r .month) 360), pairs-bound rows)
 
@@ -89,12 +93,22 @@ mag-le (negsuc n) = omega arith
 text-length : (n month owner : ℕ) (z : ℤ) → month < 360 → owner < 16 → natAbs z ≤ n * 800000000000000 → n ≤ 2427 → length (cond (ltb 0 n) (pairText month owner z) []) ≤ 24 * n
 text-length zero month owner z hm ho bound few = omega arith
 text-length (suc zero) month owner z hm ho bound few =
-    omega (arith, length-pairText month owner z, length-decimal-le 3 month (omega arith) (omega arith) (omega arith), length-decimal-le 2 owner (omega arith) (omega arith) (omega arith),
-        length-signed-le 15 z (omega (arith, mag-le z)) (omega (arith, mag-le z)))
+    omega (
+      arith,
+      length-pairText month owner z,
+      length-decimal-le 3 month (omega arith) (omega arith) (omega arith),
+      length-decimal-le 2 owner (omega arith) (omega arith) (omega arith),
+      length-signed-le 15 z (omega (arith, mag-le z)) (omega (arith, mag-le z)),
+    )
 text-length (suc (suc n)) month owner z hm ho bound few =
     let some : ltb 0 (suc (suc n)) ≡ true = lt-ltb 0 (suc (suc n)) (omega arith) in
-    rw some (omega (arith, length-pairText month owner z, length-decimal-le 3 month (omega arith) (omega arith) (omega arith), length-decimal-le 2 owner (omega arith) (omega arith) (omega arith),
-        length-signed-le 19 z (omega (arith, mag-le z)) (omega (arith, mag-le z))))
+    rw some (omega (
+      arith,
+      length-pairText month owner z,
+      length-decimal-le 3 month (omega arith) (omega arith) (omega arith),
+      length-decimal-le 2 owner (omega arith) (omega arith) (omega arith),
+      length-signed-le 19 z (omega (arith, mag-le z)) (omega (arith, mag-le z)),
+    ))
 
 length-row : (n : ℕ) (f : ℕ → List ℕ) (g : ℕ → ℕ) → ((k : ℕ) → k < n → length (f k) ≤ 24 * g k) → length (upTo n f) ≤ 24 * sumTo n g
 unfolding sumTo
@@ -105,7 +119,7 @@ pub length-pairLines : (rows : List Row) → All WithinRow rows → length rows 
 unfolding pairs
 length-pairLines rows within few =
     let line : (m o : ℕ) → m < 360 → o < 16 → length (pairLine rows m o) ≤ 24 * countOf m o rows =
-        λ m o hm ho. text-length (countOf m o rows) m o (sumOf m o rows) hm ho (sum-bound m o rows within) (omega (arith, count-bound m o rows)) in
+    λ m o hm ho. text-length (countOf m o rows) m o (sumOf m o rows) hm ho (sum-bound m o rows within) (omega (arith, count-bound m o rows)) in
     let month : (m : ℕ) → m < 360 → length (monthLines rows m) ≤ 24 * sumTo 16 (λ o. countOf m o rows) = λ m hm. length-row 16 (pairLine rows m) (λ o. countOf m o rows) (λ o ho. line m o hm ho) in
     omega (arith, length-row 360 (monthLines rows) (λ m. sumTo 16 (λ o. countOf m o rows)) month, pairs-bound rows)
 

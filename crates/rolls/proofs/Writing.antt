@@ -30,7 +30,7 @@ module _ {p p₁ p₂ : List ℕ} {a a₁ a₂ : ℕ} {xs ys : List ℕ} where
   wrote-then u v =
       let from : a₂ ≡ a₁ + length ys = v .end in
       let behind : drop (a₁ + length ys) p₁ ≡ drop (a₁ + length ys) p =
-          sym (drop-drop (length ys) a₁ p₁) ∙ ap (drop (length ys)) (u .rest) ∙ drop-drop (length ys) a₁ p in
+      sym (drop-drop (length ys) a₁ p₁) ∙ ap (drop (length ys)) (u .rest) ∙ drop-drop (length ys) a₁ p in
       record {
         end = omega (arith, u .end, v .end, length-append xs ys);
         front = v .front ∙ ap (λ zs. zs ++ ys) (u .front) ∙ append-assoc (take a p) xs ys;

@@ -112,6 +112,13 @@ fn bounded(piece: &[u8], tag: u8, low: u64, high: u64, place: usize) -> Result<u
     Ok(n)
 }
 
+// Eight bytes' number as two's complement.
+fn signed(n: u64) -> i64
+    ensures { λ r. ⌜ r ≡ toZ w64 n ⌝ }
+{
+    n.cast_signed()
+}
+
 // The cents of the last field, if they are within their limit.
 fn amount(piece: &[u8], place: usize) -> Result<i64, ArchiveFault>
     requires { ⌜ length (now piece) ≡ 11 ⌝ }
@@ -119,7 +126,7 @@ fn amount(piece: &[u8], place: usize) -> Result<i64, ArchiveFault>
     ensures bytes { λ r. ⌜ made r (λ z. now (piece .entry) ≡ fieldOf 4 8 (ofZ w64 z)) ⌝ }
     ensures within { λ r. ⌜ made r (λ z. natAbs z ≤ 800000000000000) ⌝ }
 {
-    let cents = numbered(piece, 4, place)?.cast_signed();
+    let cents = signed(numbered(piece, 4, place)?);
     if cents.unsigned_abs() > 800_000_000_000_000 {
         return Err(ArchiveFault::Value { place });
     }

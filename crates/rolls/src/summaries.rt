@@ -9,7 +9,10 @@ ghost use Rattle.rolls.specs.Pages.{Wrote};
 ghost use Rattle.rolls.specs.Summaries.{summaryText, closing};
 ghost use Rattle.rolls.specs.Tallies.{slotLine, slotLines, allLines};
 use crate::fault::ArchiveFault;
-use crate::page::{number, pair, put, words};
+use crate::page::number;
+use crate::page::pair;
+use crate::page::put;
+use crate::page::words;
 use crate::sums::Sums;
 use crate::tally::tally;
 

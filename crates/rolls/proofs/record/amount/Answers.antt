@@ -12,7 +12,7 @@ use Rattle.rolls.proofs.record.amount.Needs as need
 
 pub returns : need.returns
 returns c =
-    let z = c .cast-signed-cents .result in
+    let z = c .signed-cents .result in
     let fit : SFits w64 z = search needs in
     let back : toZ w64 (ofZ w64 z) ≡ z = toZ-ofZ w64 z fit in
     let width : length (c .args .piece .now) - 3 ≡ 8 = omega arith in
@@ -23,7 +23,7 @@ returns c =
     let room : n < 2 ^ 64 = omega arith in
     let small : natAbs z ≤ 800000000000000 = omega (arith, rw back at (c .unsigned-abs .ensures .value)) in
     rw back (record {
-      answer = amount-granted f (c .args .place) n z (c .cast-signed-cents .ensures) head small;
-      bytes = amount-bytes f (c .args .place) n z (c .cast-signed-cents .ensures) head room bytes;
+      answer = amount-granted f (c .args .place) n z (c .signed-cents .ensures) head small;
+      bytes = amount-bytes f (c .args .place) n z (c .signed-cents .ensures) head room bytes;
       within = small;
     })

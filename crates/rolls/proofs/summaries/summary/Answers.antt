@@ -23,16 +23,36 @@ pub ended-requires : need.ended-requires
 ended-requires c κs =
     let t = c .tally-read .ensures in
     let rows = contents (c .args .archive .now) .rows in
-    omega (arith, ap length (allLines-are (c .tally-read .last .sums) rows (t .sums)), length-pairLines rows (t .within) (t .few), t .few, c .words-at .ensures .end, c .words-at .ensures .long, c .told-page,
-        c .all-lines-at .ensures .end, c .all-lines-at .ensures .long, length-closing-ended (c .in-Ok .count) (omega (arith, c .in-Ok .ensures tt .ends .1, t .few)))
+    omega (
+      arith,
+      ap length (allLines-are (c .tally-read .last .sums) rows (t .sums)),
+      length-pairLines rows (t .within) (t .few),
+      t .few,
+      c .words-at .ensures .end,
+      c .words-at .ensures .long,
+      c .told-page,
+      c .all-lines-at .ensures .end,
+      c .all-lines-at .ensures .long,
+      length-closing-ended (c .in-Ok .count) (omega (arith, c .in-Ok .ensures tt .ends .1, t .few)),
+    )
 
 pub stopped-requires : need.stopped-requires
 stopped-requires c κs =
     let t = c .tally-read .ensures in
     let rows = contents (c .args .archive .now) .rows in
     let fit : refusal (c .in-Err .fault) .place < 2 ^ 64 = search needs in
-    omega (arith, ap length (allLines-are (c .tally-read .last .sums) rows (t .sums)), length-pairLines rows (t .within) (t .few), t .few, c .words-at .ensures .end, c .words-at .ensures .long, c .told-page,
-        c .all-lines-at .ensures .end, c .all-lines-at .ensures .long, length-closing-stopped (c .in-Err .fault) fit)
+    omega (
+      arith,
+      ap length (allLines-are (c .tally-read .last .sums) rows (t .sums)),
+      length-pairLines rows (t .within) (t .few),
+      t .few,
+      c .words-at .ensures .end,
+      c .words-at .ensures .long,
+      c .told-page,
+      c .all-lines-at .ensures .end,
+      c .all-lines-at .ensures .long,
+      length-closing-stopped (c .in-Err .fault) fit,
+    )
 
 pub returns-in-Ok : need.returns-in-Ok
 returns-in-Ok c =
@@ -41,9 +61,9 @@ returns-in-Ok c =
     let e = c .in-Ok .ensures tt .ends in
     let lines : allLines (c .tally-read .last .sums) ≡ pairLines (contents bs .rows) = allLines-are (c .tally-read .last .sums) (contents bs .rows) (t .sums) in
     let text : summaryText bs ≡ codes "month owner cents\n" ++ (allLines (c .tally-read .last .sums) ++ closing (c .in-Ok .count) None) =
-        short-archive bs (c .if-archive-gt65529 .left) ∙ rw (lines, e .0, e .1) refl in
+    short-archive bs (c .if-archive-gt65529 .left) ∙ rw (lines, e .0, e .1) refl in
     let w = laid-first (c .args .page .now) (codes "month owner cents\n" ++ (allLines (c .tally-read .last .sums) ++ closing (c .in-Ok .count) None)) (c .ended .last .page) (c .ended .result)
-        (wrote-then (c .words-at .ensures) (wrote-then (c .all-lines-at .ensures) (c .ended .ensures))) in
+    (wrote-then (c .words-at .ensures) (wrote-then (c .all-lines-at .ensures) (c .ended .ensures))) in
     rw text (record { count = w .0; text = w .1; page-suffices = omega (arith, w .2, c .told-page) })
 
 pub returns-in-Err : need.returns-in-Err
@@ -55,5 +75,5 @@ returns-in-Err c =
     let lines : allLines (c .tally-read .last .sums) ≡ pairLines (contents bs .rows) = allLines-are (c .tally-read .last .sums) (contents bs .rows) (t .sums) in
     let text : summaryText bs ≡ codes "month owner cents\n" ++ (allLines (c .tally-read .last .sums) ++ last) = short-archive bs (c .if-archive-gt65529 .left) ∙ rw (lines, e) refl in
     let w = laid-first (c .args .page .now) (codes "month owner cents\n" ++ (allLines (c .tally-read .last .sums) ++ last)) (c .stopped .last .page) (c .stopped .result)
-        (wrote-then (c .words-at .ensures) (wrote-then (c .all-lines-at .ensures) (c .stopped .ensures))) in
+    (wrote-then (c .words-at .ensures) (wrote-then (c .all-lines-at .ensures) (c .stopped .ensures))) in
     rw text (record { count = w .0; text = w .1; page-suffices = omega (arith, w .2, c .told-page) })
