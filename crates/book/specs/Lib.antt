@@ -1,0 +1,14 @@
+pub mod Entries
+pub mod Limits
+pub mod Meaning
+pub mod Forces
+pub mod Workings
+pub mod Faults
+pub mod Answers
+pub mod Bounds
+pub mod Books
+pub mod Checks
+pub mod Journals
+pub mod States
+pub mod Calls
+pub mod Postings

@@ -1,0 +1,18 @@
+use mathlib.Core.Path.{refl}
+use native.Mathlib.Omega.{arith}
+use Rattle.std.proofs.shelf.Signed.{ints}
+use Rattle.charges.specs.Volumetric.{volumetricPools}
+use Rattle.charges.proofs.Keeping.{keeps-cover, keeps-idle, keeps-bounded, keeps-one-of-each}
+use Rattle.charges.proofs.volumetric.VolumetricCharge.the-impl.Needs as need
+
+pub parts-cover-the-requirements-law : need.parts-cover-the-requirements-law
+parts-cover-the-requirements-law charge month rows good = keeps-cover (volumetricPools (charge .tenths) rows) rows (refl, (refl, (refl, (refl, tt)))) (omega (arith, ints))
+
+pub idle-owners-are-billed-nothing-law : need.idle-owners-are-billed-nothing-law
+idle-owners-are-billed-nothing-law charge month rows good = keeps-idle (volumetricPools (charge .tenths) rows) rows
+
+pub figures-stay-bounded-law : need.figures-stay-bounded-law
+figures-stay-bounded-law charge month rows good = keeps-bounded (volumetricPools (charge .tenths) rows) rows
+
+pub one-of-each-for-every-owner-law : need.one-of-each-for-every-owner-law
+one-of-each-for-every-owner-law charge month rows good = keeps-one-of-each (volumetricPools (charge .tenths) rows) rows

@@ -1,0 +1,17 @@
+pub mod Burdens
+pub mod Gauges
+pub mod Promises
+pub mod Transition
+pub mod WorkedLayers
+pub mod Checks
+pub mod Rows
+pub mod Tables
+pub mod Outcomes
+pub mod Amounts
+pub mod Meaning
+pub mod Pools
+pub mod Charging
+pub mod Volumetric
+pub mod Hybrid
+pub mod Settings
+pub mod Worked
