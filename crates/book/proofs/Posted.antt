@@ -24,7 +24,7 @@ pub lines-more : (before after all : List Row) (month mark i : ℕ) (cents : Lis
 lines-more before after all month mark i cents z h z-is after-is so-far =
     let rest = linesFrom month mark (i + 1) (drop (i + 1) cents) in
     let next : rowOf month i mark z ∷ rest ≡ linesFrom month mark i (drop i cents) =
-        ap (λ x. rowOf month i mark x ∷ rest) z-is ∙ ap (λ k. rowOf month i mark (getD cents i (pos 0)) ∷ linesFrom month mark k (drop (i + 1) cents)) (add-one i) ∙ sym (at-drop-more (linesFrom month mark i) cents i (pos 0) h) in
+    ap (λ x. rowOf month i mark x ∷ rest) z-is ∙ ap (λ k. rowOf month i mark (getD cents i (pos 0)) ∷ linesFrom month mark k (drop (i + 1) cents)) (add-one i) ∙ sym (at-drop-more (linesFrom month mark i) cents i (pos 0) h) in
     ap (λ ls. ls ++ rest) after-is ∙ append-assoc before (rowOf month i mark z ∷ []) rest ∙ ap (λ ls. before ++ ls) next ∙ so-far
 
 pub lines-all : (now all : List Row) (month mark i : ℕ) (cents : List ℤ) → length cents ≤ i → now ++ linesFrom month mark i (drop i cents) ≡ all → now ≡ all

@@ -41,7 +41,17 @@ fn is_full(journal: &Vec<Entry>) -> bool
 
 impl<C: Charge> Book<C> {
     // Enters an owner's filing from a first to a last month, and answers the entry's number.
-    pub fn file(&self, journal: &mut Vec<Entry>, owner: u8, first: u16, last: u16, ehv: i64, nhv: i64, load: u32, peak: u32) -> Result<usize, BookFault>
+    pub fn file(
+        &self,
+        journal: &mut Vec<Entry>,
+        owner: u8,
+        first: u16,
+        last: u16,
+        ehv: i64,
+        nhv: i64,
+        load: u32,
+        peak: u32,
+    ) -> Result<usize, BookFault>
         ensures answer { λ r. ⌜ told (λ i. i) r ≡ verdict (vec-len (now (journal .entry))) (filingChecks (length (areasOf (now (self .entry)))) (vec-len (now (journal .entry))) (vec-cap (now (journal .entry))) (filedAs owner first last ehv nhv load peak)) ⌝ }
         ensures journal { λ r. ⌜ Enters (filed (filedAs owner first last ehv nhv load peak)) r (now (journal .entry)) (now (journal .exit)) ⌝ }
     {
@@ -72,7 +82,14 @@ impl<C: Charge> Book<C> {
     }
 
     // Enters an owner's reading of a month, and answers the entry's number.
-    pub fn read(&self, journal: &mut Vec<Entry>, month: u16, owner: u8, load: u32, peak: u32) -> Result<usize, BookFault>
+    pub fn read(
+        &self,
+        journal: &mut Vec<Entry>,
+        month: u16,
+        owner: u8,
+        load: u32,
+        peak: u32,
+    ) -> Result<usize, BookFault>
         ensures answer { λ r. ⌜ told (λ i. i) r ≡ verdict (vec-len (now (journal .entry))) (readingChecks (length (areasOf (now (self .entry)))) (vec-len (now (journal .entry))) (vec-cap (now (journal .entry))) (meteredAs month owner load peak)) ⌝ }
         ensures journal { λ r. ⌜ Enters (metered (meteredAs month owner load peak)) r (now (journal .entry)) (now (journal .exit)) ⌝ }
     {

@@ -19,7 +19,11 @@ mod work;
 
 pub use book::Book;
 pub use entry::Entry;
-pub use fault::BookFault;
-pub use opening::Opening;
 pub use entry::Filing;
 pub use entry::Reading;
+pub use fault::BookFault;
+pub use fault::BookFaultDebug;
+pub use fault::BookFaultEq;
+pub use fault::BookFaultPartialEq;
+pub use opening::Opening;
+pub use risen::ChargeFaultIntoBookFault;

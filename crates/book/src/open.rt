@@ -34,7 +34,12 @@ impl Nets {
 
 impl<C: Charge> Book<C> {
     // Works a month out at the journal's length and writes its nets into the draft list's first places.
-    pub fn open(&self, journal: &Vec<Entry>, month: u16, draft: &mut [i64]) -> Result<Opening, BookFault>
+    pub fn open(
+        &self,
+        journal: &Vec<Entry>,
+        month: u16,
+        draft: &mut [i64],
+    ) -> Result<Opening, BookFault>
         ensures answer { λ r. ⌜ told openingOf r ≡ opened month (countOf (now (journal .entry))) (workedAfter (firstFault (openChecks (length (areasOf (now (self .entry)))) (length (now (draft .entry))) month (markOf (now (self .entry)) month) (entriesIn (now (journal .entry))))) (workedOut (meaning (now (self .entry) .charge)) (areasOf (now (self .entry))) month (entriesIn (now (journal .entry))))) ⌝ }
         ensures draft { λ r. ⌜ now (draft .exit) ≡ drafted (workedAfter (firstFault (openChecks (length (areasOf (now (self .entry)))) (length (now (draft .entry))) month (markOf (now (self .entry)) month) (entriesIn (now (journal .entry))))) (workedOut (meaning (now (self .entry) .charge)) (areasOf (now (self .entry))) month (entriesIn (now (journal .entry))))) (now (draft .entry)) ⌝ }
         ensures owed { λ r. ⌜ made r (λ o. o .spent ≡ false) ⌝ }

@@ -20,7 +20,12 @@ use crate::rows::table_of;
 use crate::standing::in_force;
 use charges::Charge;
 
-pub(crate) fn work_out<C: Charge>(charge: &C, areas: &[u8], entries: &[Entry], month: u16) -> Result<Nets, BookFault>
+pub(crate) fn work_out<C: Charge>(
+    charge: &C,
+    areas: &[u8],
+    entries: &[Entry],
+    month: u16,
+) -> Result<Nets, BookFault>
     requires some { ⌜ 1 ≤ length (now areas) ⌝ }
     requires few { ⌜ length (now areas) ≤ 16 ⌝ }
     requires areas { ⌜ ((k : ℕ) → getD (now areas) k 0 ≤ 2) ⌝ }

@@ -22,7 +22,7 @@ use Rattle.charges.specs.declared.amounts.Amounts.{Amounts}
 use Rattle.charges.specs.declared.caps.Caps.{Caps}
 use Rattle.charges.proofs.Along.{length-along}
 use Rattle.charges.proofs.Capping.{rest-long, payments-long, mitigations-long, adjusted-long, finals-long}
-use Rattle.charges.proofs.Columns.{amounts-long, below-weaker, below-along, weights-of-caps}
+use Rattle.charges.proofs.Writing.{amounts-long, below-weaker, below-along, weights-of-caps}
 use Rattle.charges.proofs.Limited.{excesses-below, headrooms-below, benefits-below, excess-sum-size, headroom-sum-size, payments-below, mitigations-below, adjusted-below, capped-below, uncapped-below, finals-below, transitions-below, again-below, rest-below}
 use Rattle.charges.proofs.Parts.{count-of}
 
@@ -124,7 +124,7 @@ module _ (s : Caps) (a : Amounts) (small : AllBelow 500000000000 (amountsOf a)) 
     payments-counted = count-of p _ p-is ∙ payments-long shares running-divides caps bs same ∙ caps-long ∙ sym (gauge-counted excess x x-is)
 
     module _ (m : Amounts) (m-is : amountsOf m ≡ along _-ℤ_ (amountsOf p) (amountsOf x)) where
-      mitigations-are : amountsOf m ≡ mitigations shares caps bs
+      pub mitigations-are : amountsOf m ≡ mitigations shares caps bs
       unfolding mitigations
       mitigations-are = m-is ∙ ap (λ ys. along _-ℤ_ ys (amountsOf x)) p-is ∙ ap (along _-ℤ_ (payments shares caps bs)) x-is
 

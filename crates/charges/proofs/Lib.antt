@@ -1,6 +1,6 @@
 pub mod Along
 pub mod Capping
-pub mod Columns
+pub mod Writing
 pub mod Layering
 pub mod Settling
 pub mod Promised

@@ -19,7 +19,7 @@ impl Caps {
     }
 
     // The final burdens, column [39]: what capped owners bear is divided again by cap, and an uncapped owner keeps its own.
-    fn finals(&self, burdens: &Amounts) -> Amounts
+    pub(crate) fn finals(&self, burdens: &Amounts) -> Amounts
         requires { ⌜ AllBelow 500000000000 (amountsOf (now burdens)) ⌝ }
         ensures { λ r. ⌜ amountsOf r ≡ finals shares (take (now (burdens .entry) .count) (now (self .entry) .items)) (amountsOf (now (burdens .entry))) ⌝ }
     {
@@ -31,7 +31,7 @@ impl Caps {
     }
 
     // The adjusted burdens, column [36]: the mitigation, column [35], is the payment less the excess.
-    fn adjusted(&self, burdens: &Amounts) -> Amounts
+    pub(crate) fn adjusted(&self, burdens: &Amounts) -> Amounts
         requires { ⌜ AllBelow 500000000000 (amountsOf (now burdens)) ⌝ }
         ensures { λ r. ⌜ amountsOf r ≡ adjusted shares (take (now (burdens .entry) .count) (now (self .entry) .items)) (amountsOf (now (burdens .entry))) ⌝ }
     {
@@ -41,7 +41,7 @@ impl Caps {
     }
 
     // The payments, column [34]: by headroom, or all of it and by benefit what it leaves.
-    fn payments(&self, burdens: &Amounts) -> Amounts
+    pub(crate) fn payments(&self, burdens: &Amounts) -> Amounts
         requires { ⌜ AllBelow 500000000000 (amountsOf (now burdens)) ⌝ }
         ensures { λ r. ⌜ amountsOf r ≡ payments shares (take (now (burdens .entry) .count) (now (self .entry) .items)) (amountsOf (now (burdens .entry))) ⌝ }
     {
@@ -57,7 +57,7 @@ impl Caps {
     }
 
     // What a gauge reads of each owner.
-    fn read(&self, which: Gauge, amounts: &Amounts) -> Amounts
+    pub(crate) fn read(&self, which: Gauge, amounts: &Amounts) -> Amounts
         requires { ⌜ AllBelow 1000000000000000 (amountsOf (now amounts)) ⌝ }
         ensures { λ r. ⌜ amountsOf r ≡ along (gauge which) (take (now (amounts .entry) .count) (now (self .entry) .items)) (amountsOf (now (amounts .entry))) ⌝ }
     {

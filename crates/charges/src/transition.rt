@@ -20,7 +20,7 @@ const MOST_CAP: u32 = 60_000_000;
 #[derive(Drop)]
 pub struct Transition<C> {
     below: C,
-    caps: Caps,
+    pub(crate) caps: Caps,
 }
 
 impl<C: Charge + Drop> Transition<C> {

@@ -1,4 +1,4 @@
-// The worked month under both charges: each owner's rates, part and bill.
+// The worked month under both charges, each owner's rates, part and bill, and then under transition layers, column by column.
 ghost use mathlib.Core.Path.{_≡_};
 ghost use Rattle.std.specs.Slices.{found};
 ghost use Rattle.division.specs.Shares.{sumZ};
@@ -12,6 +12,8 @@ use charges::HybridCharge;
 use charges::OwnerRow;
 use charges::Rates;
 use charges::Table;
+use charges::Transition;
+use charges::TransitionCharge;
 use charges::Volumetric;
 use charges::VolumetricCharge;
 use std::error::AnyError;
@@ -125,6 +127,61 @@ fn print_charge<C: Priced>(
     print_totals(rt, &billing)
 }
 
+// A column's name and the owners' amounts.
+fn print_owners(rt: &impl Print, name: &str, amounts: &Amounts) -> Result<(), AnyError> {
+    print!(rt, "{name:<12}")?;
+    for owner in 0..amounts.count() {
+        let Some(amount) = amounts.at(owner) else {
+            return Err("an owner without an amount".into());
+        };
+        print!(rt, " {amount:>8}")?;
+    }
+    Ok(())
+}
+
+// A column with what its amounts add up to.
+fn print_column(rt: &impl Print, name: &str, amounts: &Amounts) -> Result<(), AnyError> {
+    print_owners(rt, name, amounts)?;
+    let Some(sum) = total(amounts) else {
+        return Err("a total too large".into());
+    };
+    println!(rt, " {sum:>8}")?;
+    Ok(())
+}
+
+// A layer on the volumetric charge: its columns, and parts and bills with its charges added.
+fn print_layer(
+    rt: &impl Print,
+    title: &str,
+    caps: [u32; 16],
+    table: &Table,
+) -> Result<(), AnyError> {
+    let Ok(below) = Volumetric::new(8) else {
+        return Err("no such volumetric charge".into());
+    };
+    let Ok(layer) = Transition::new(below, 8, caps) else {
+        return Err("no such layer".into());
+    };
+    let Ok(billing) = layer.ask(0, table) else {
+        return Err("the month is refused".into());
+    };
+    let columns = layer.columns(table);
+    println!(rt, "{title}")?;
+    println!(rt, "owner               0        1        2    total")?;
+    print_column(rt, "burden", &columns.burdens)?;
+    print_column(rt, "headroom", &columns.headroom)?;
+    print_column(rt, "excess", &columns.excess)?;
+    print_column(rt, "payment", &columns.payments)?;
+    print_column(rt, "mitigation", &columns.mitigations)?;
+    print_column(rt, "adjusted", &columns.adjusted)?;
+    print_column(rt, "final", &columns.finals)?;
+    print_column(rt, "charge", &columns.charges)?;
+    print_owners(rt, "rate", &columns.rates)?;
+    println!(rt, "")?;
+    print_column(rt, "part", &billing.parts)?;
+    print_column(rt, "bill", &billing.bills)
+}
+
 fn run(rt: &impl Print) -> Result<(), AnyError> {
     let Ok(table) = Table::new(&worked_rows()) else {
         return Err("the rows make no table".into());
@@ -136,7 +193,21 @@ fn run(rt: &impl Print) -> Result<(), AnyError> {
         return Err("no such hybrid charge".into());
     };
     print_charge(rt, "volumetric, 8 tenths grid-wide", &volumetric, &table)?;
-    print_charge(rt, "hybrid, 50 percent by load", &hybrid, &table)
+    print_charge(rt, "hybrid, 50 percent by load", &hybrid, &table)?;
+    let two_capped = [200, 0, 100, 0, 0, 0, 0, 0, 0, 0, 0, 0, 0, 0, 0, 0];
+    print_layer(
+        rt,
+        "transition on volumetric, caps 200, 0, 100",
+        two_capped,
+        &table,
+    )?;
+    let one_capped = [100, 0, 0, 0, 0, 0, 0, 0, 0, 0, 0, 0, 0, 0, 0, 0];
+    print_layer(
+        rt,
+        "transition on volumetric, caps 100, 0, 0",
+        one_capped,
+        &table,
+    )
 }
 
 fn main(rt: LibcRuntime) -> Result<(), AnyError> {

@@ -19,7 +19,33 @@ mod tests {
 
     // Month 14, owner 2, mark 9, -150 cents.
     const WORKED: [u8; 27] = [
-        1, 0, 2, 0, 14, 2, 0, 1, 2, 3, 0, 4, 0, 0, 0, 9, 4, 0, 8, 255, 255, 255, 255, 255, 255, 255, 106,
+        1,
+        0,
+        2,
+        0,
+        14,
+        2,
+        0,
+        1,
+        2,
+        3,
+        0,
+        4,
+        0,
+        0,
+        0,
+        9,
+        4,
+        0,
+        8,
+        255,
+        255,
+        255,
+        255,
+        255,
+        255,
+        255,
+        106,
     ];
 
     fn line(month: u16, owner: u8, mark: u16, cents: i64) -> Result<Line, Fail> {
@@ -95,9 +121,15 @@ mod tests {
         let mut bytes = WORKED;
         bytes[15] = 0;
         bytes[16] = 0;
-        check_eq(read_record(&bytes, 3).err(), Some(ArchiveFault::Value { place: 3 }))?;
+        check_eq(
+            read_record(&bytes, 3).err(),
+            Some(ArchiveFault::Value { place: 3 }),
+        )?;
         bytes[9] = 0;
-        check_eq(read_record(&bytes, 3).err(), Some(ArchiveFault::Heading { place: 3 }))?;
+        check_eq(
+            read_record(&bytes, 3).err(),
+            Some(ArchiveFault::Heading { place: 3 }),
+        )?;
         let short = Some(ArchiveFault::Short { place: 3 });
         check_eq(read_record(&bytes[0..26], 3).err(), short)
     }
@@ -176,7 +208,10 @@ mod tests {
     fn longest_archive() -> Result<(), Fail> {
         let mut bytes = [0; 65_530];
         repeat(&mut bytes);
-        shows(&bytes[0..65_529], b"month owner cents\n14 2 -364050\nend 2427\n")?;
+        shows(
+            &bytes[0..65_529],
+            b"month owner cents\n14 2 -364050\nend 2427\n",
+        )?;
         shows(&bytes, b"too long\n")
     }
 
@@ -186,7 +221,13 @@ mod tests {
         repeat(&mut bytes);
         bytes[65_502] = 9;
         shows(&bytes, b"month owner cents\n14 2 -363900\nstop 2426 20\n")?;
-        shows(&bytes[0..65_502], b"month owner cents\n14 2 -363900\nend 2426\n")?;
-        shows(&bytes[0..65_503], b"month owner cents\n14 2 -363900\nstop 2426 19\n")
+        shows(
+            &bytes[0..65_502],
+            b"month owner cents\n14 2 -363900\nend 2426\n",
+        )?;
+        shows(
+            &bytes[0..65_503],
+            b"month owner cents\n14 2 -363900\nstop 2426 19\n",
+        )
     }
 }

@@ -12,7 +12,7 @@ loop-entry-again c =
     let i = c .loop-entry .entry-index in
     let x = c .entry-item .result in
     let more : map noted (take (i + 1) xs) ≡ map noted (take i xs) ++ noted x ∷ [] =
-        map-more noted xs i x (c .loop-entry-test .taken) ∙ ap (λ y. map noted (take i xs) ++ noted y ∷ []) (sym (c .entry-item .is)) in
+    map-more noted xs i x (c .loop-entry-test .taken) ∙ ap (λ y. map noted (take i xs) ++ noted y ∷ []) (sym (c .entry-item .is)) in
     rw more (c .note .ensures (map noted (take i xs)) (c .loop-entry .inv))
 
 pub returns : need.returns

@@ -23,5 +23,5 @@ pub returns : need.returns
 returns g c =
     let areas = c .args .areas .now in
     let fine : (eqb (length areas) 0 || (ltb 16 (length areas) || anyBy (λ a. ltb 2 a) areas)) ≡ false =
-        or-from _ _ (ne-eqb _ _ (c .if-areas-eq0 .left)) (or-from _ _ (le-ltb _ _ (c .if-areas-gt16 .left)) (sym (c .if-strays .ensures tt))) in
+    or-from _ _ (ne-eqb _ _ (c .if-areas-eq0 .left)) (or-from _ _ (le-ltb _ _ (c .if-areas-gt16 .left)) (sym (c .if-strays .ensures tt))) in
     (ap (λ b. cond b (Some (plain 1)) None) fine, c .placed-areas .ensures .value, refl, unmarked)

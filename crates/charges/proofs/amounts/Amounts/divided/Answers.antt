@@ -14,7 +14,7 @@ use Rattle.division.specs.Outcomes.{Divided, Refused}
 use Rattle.division.specs.Shares.{total, shares}
 use Rattle.charges.specs.Amounts.{amountsOf}
 use Rattle.charges.proofs.Answered.{granted}
-use Rattle.charges.proofs.Columns.{amounts-long, weigh-little, grants}
+use Rattle.charges.proofs.Writing.{amounts-long, weigh-little, grants}
 use Rattle.charges.proofs.amounts.Amounts.divided.Needs as need
 
 pub ghost-result : need.ghost-result

@@ -8,7 +8,7 @@ use Rattle.std.proofs.shelf.Lists.{length-set}
 use Rattle.std.proofs.shelf.Signed.{ints}
 use Rattle.charges.specs.Amounts.{amountsOf}
 use Rattle.charges.specs.Burdens.{along}
-use Rattle.charges.proofs.Columns.{column-more, column-all, amount-below, pair-long, pair-at}
+use Rattle.charges.proofs.Writing.{column-more, column-all, amount-below, pair-long, pair-at}
 use Rattle.charges.proofs.amounts.Amounts.less.Needs as need
 
 pub sub-items : need.sub-items

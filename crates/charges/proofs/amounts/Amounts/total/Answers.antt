@@ -8,7 +8,7 @@ use Rattle.std.proofs.shelf.Lists.{take-all}
 use Rattle.std.proofs.shelf.Signed.{ints}
 use Rattle.division.specs.Shares.{sumZ}
 use Rattle.charges.specs.Amounts.{amountsOf}
-use Rattle.charges.proofs.Columns.{amounts-long, amount-at, amount-below, sum-step}
+use Rattle.charges.proofs.Writing.{amounts-long, amount-at, amount-below, sum-step}
 use Rattle.charges.proofs.amounts.Amounts.total.Needs as need
 
 pub add-sum : need.add-sum

@@ -10,7 +10,7 @@ use Rattle.std.proofs.shelf.Lists.{length-set, length-map, getD-map}
 use Rattle.std.proofs.shelf.Signed.{toZ-ofZ}
 use Rattle.charges.specs.Amounts.{amountsOf}
 use Rattle.charges.specs.declared.amounts.Amounts.{Amounts}
-use Rattle.charges.proofs.Columns.{column-more, column-all, amounts-long, amount-at}
+use Rattle.charges.proofs.Writing.{column-more, column-all, amounts-long, amount-at}
 use Rattle.charges.proofs.amounts.Amounts.weights.Needs as need
 
 long : (a : Amounts) → length (map natAbs (amountsOf a)) ≡ a .count

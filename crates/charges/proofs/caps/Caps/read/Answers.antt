@@ -9,7 +9,7 @@ use Rattle.std.proofs.shelf.Signed.{ints, toZ-ofZ}
 use Rattle.charges.specs.Amounts.{amountsOf}
 use Rattle.charges.specs.Burdens.{along}
 use Rattle.charges.specs.Gauges.{gauge}
-use Rattle.charges.proofs.Columns.{column-more, column-all, amount-below, gauge-long, gauge-at}
+use Rattle.charges.proofs.Writing.{column-more, column-all, amount-below, gauge-long, gauge-at}
 use Rattle.charges.proofs.caps.Caps.read.Needs as need
 
 pub of-requires : need.of-requires
