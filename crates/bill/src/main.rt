@@ -1,4 +1,6 @@
 // The book as a library: three owners file and are metered, a month is opened and billed, and its lines are printed.
+#![tactic(auto)]
+
 use anyhow::anyhow;
 use book::{Book, BookFault, Entry};
 use charges::{Charge, Volumetric};

@@ -1,4 +1,6 @@
 // The book of a settlement office: what owners file and meters read, and the bills that follow.
+#![tactic(auto)]
+
 mod book;
 mod call;
 mod current;

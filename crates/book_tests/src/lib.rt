@@ -1,4 +1,6 @@
 // The book on examples, through the calls that a program makes.
+#![tactic(auto)]
+
 #[cfg(test)]
 mod entries;
 #[cfg(test)]

@@ -1,4 +1,6 @@
 // Charges: what each owner's part of the year's requirement is, and what a month's bill comes to.
+#![tactic(auto)]
+
 mod amounts;
 mod billing;
 mod caps;

@@ -1,4 +1,6 @@
 // The charges on examples, through the calls that a program makes.
+#![tactic(auto)]
+
 #[cfg(test)]
 mod figures;
 #[cfg(test)]

@@ -1,4 +1,6 @@
 // The worked month under both charges, each owner's rates, part and bill, and then under transition layers, column by column.
+#![tactic(auto)]
+
 ghost use Rattle.std.specs.Prelude.{◌≡◌, IfSome};
 ghost use Rattle.division.specs.Shares.{int_sum};
 ghost use Rattle.charges.specs.Amounts.{amounts_of};

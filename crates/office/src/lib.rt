@@ -1,4 +1,6 @@
 // The office: a script that has been read is run through the book, and its answers are laid out as text.
+#![tactic(auto)]
+
 mod answers;
 mod halt;
 mod refusal;

@@ -1,4 +1,6 @@
 // Lines, the rolls that keep them, and the archive they are written to.
+#![tactic(auto)]
+
 mod archive;
 mod archive_roll;
 mod fault;

@@ -1,4 +1,6 @@
 // Lines, records, rolls and summaries on examples.
+#![tactic(auto)]
+
 #[cfg(test)]
 mod tests {
     use rolls::{

@@ -1,4 +1,6 @@
 // A script of the office: the set-up of a book and the calls to make, read from text.
+#![tactic(auto)]
+
 mod calls;
 mod command;
 mod draft;

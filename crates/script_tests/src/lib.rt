@@ -1,4 +1,6 @@
 // Scripts, good and bad, and sessions whose set-up is refused.
+#![tactic(auto)]
+
 #[cfg(test)]
 mod reading;
 #[cfg(test)]

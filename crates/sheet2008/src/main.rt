@@ -1,5 +1,7 @@
 // The rate sheet of 1 March 2008 beside what the transition layer works out from the same filings, dollar for dollar.
 // Three of its cells cannot be read: PG&E's burden in column [30] and charge in column [38], and SCE's mitigation in column [35].
+#![tactic(auto)]
+
 use anyhow::anyhow;
 use charges::{Amounts, OwnerRow, Table, Transition, Volumetric};
 

@@ -1,4 +1,6 @@
 // Reads a script from standard input, runs it through the book, and prints the answers and the roll.
+#![tactic(auto)]
+
 mod help;
 
 use anyhow::anyhow;

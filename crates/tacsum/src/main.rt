@@ -1,4 +1,6 @@
 // Reads an archive from standard input and prints the sums of its lines by month and owner.
+#![tactic(auto)]
+
 use rolls::summary;
 use std::io;
 use std::io::{Read, Write};

@@ -1,4 +1,6 @@
 // The worked figures of the whole book, as one theorem.
+#![tactic(auto)]
+
 ghost use Rattle.std.specs.Prelude.{◌≡◌, Ok};
 ghost use Rattle.charges.specs.Pools.{rounded_down, RoundsDown};
 ghost use Rattle.worked.specs.Month.{WorkedMonth, correction};
