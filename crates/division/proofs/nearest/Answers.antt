@@ -5,7 +5,7 @@ use Rattle.division.specs.Nearest.{nearest}
 use Rattle.division.proofs.Roundings.{nearest-rounds, nearest-fits}
 use Rattle.division.proofs.nearest.Goals as goal
 
-floor-is : (c : goal.After-floor-quotient-whole) → c.floor-quotient-whole.result ≡ nearest c.args.a c.args.b
+floor-is : (c : goal.After-floor_quotient-whole) → c.floor_quotient-whole.result ≡ nearest c.args.a c.args.b
 unfolding nearest
 floor-is c =
     let x = c.from.result in
@@ -17,14 +17,14 @@ floor-is c =
     let fits-2x : SFits w128 (pos 2 *ℤ x) = omega (arith, ints) in
     let fits-2y : SFits w128 (pos 2 *ℤ y) = omega (arith, ints) in
     let fits_sum : SFits w128 (pos 2 *ℤ x +ℤ y) = omega (arith, ints) in
-    let h = simp to_z-of_z at c.floor-quotient-whole.ensures in
+    let h = simp to_z-of_z at c.floor_quotient-whole.ensures in
     simp (a, b) at h
 
 pub returns-then-b-eq0 : goal.returns-then-b-eq0
 returns-then-b-eq0 c = record { value = omega arith; rounds = nearest-rounds }
 
-pub overflow-cast-result : goal.overflow-cast-result
-overflow-cast-result c = omega (arith, ints, floor-is c, nearest-fits w64 c.args.a c.args.b (omega arith) c.ranges.a)
+pub overflow_cast-result : goal.overflow_cast-result
+overflow_cast-result c = omega (arith, ints, floor-is c, nearest-fits w64 c.args.a c.args.b (omega arith) c.ranges.a)
 
 pub returns : goal.returns
 returns c =

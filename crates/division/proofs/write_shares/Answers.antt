@@ -10,18 +10,18 @@ pub loop-i-init : goal.loop-i-init
 loop-i-init c =
     (omega arith, sym (running_none _ c.args.all), step-none _ c.args.all c.args.weights.now c.requires.total)
 
-pub overflow-add-upto : goal.overflow-add-upto
-overflow-add-upto c = record { fits = omega (arith, sum_by-drop_more (λ x. x) c.args.weights.now c.loop-i.i 0 c.loop-i-test.true) }
+pub overflow_add-upto : goal.overflow_add-upto
+overflow_add-upto c = record { fits = omega (arith, sum_by-drop_more (λ x. x) c.args.weights.now c.loop-i.i 0 c.loop-i-test.true) }
 
-pub running-figure-figure-requires : goal.running-figure-figure-requires
-running-figure-figure-requires c = omega (arith, sum_by-drop_more (λ x. x) c.args.weights.now c.loop-i.i 0 c.loop-i-test.true)
+pub running_figure-figure-requires : goal.running_figure-figure-requires
+running_figure-figure-requires c = omega (arith, sum_by-drop_more (λ x. x) c.args.weights.now c.loop-i.i 0 c.loop-i-test.true)
 
 -- the sum as the loop reads it
 abbrev read : ℤ → ℤ
 read sum = to_z w64 (of_z w64 sum)
 
 -- the share of the turn is the difference of two running figures, and it fits
-module _ (c : goal.After-running-figure-figure) where
+module _ (c : goal.After-running_figure-figure) where
   abbrev figure : ℕ → ℤ
   figure upto = running (read c.args.sum) c.args.all upto
 
@@ -34,11 +34,11 @@ module _ (c : goal.After-running-figure-figure) where
       (omega (arith, sum_by-drop_more (λ x. x) c.args.weights.now c.loop-i.i 0 c.loop-i-test.true))
       (omega (arith, ints))
 
-pub overflow-sub-out : goal.overflow-sub-out
-overflow-sub-out c = let f = share-fits c in omega (arith, ints)
+pub overflow_sub-out : goal.overflow_sub-out
+overflow_sub-out c = let f = share-fits c in omega (arith, ints)
 
-pub overflow-cast-out : goal.overflow-cast-out
-overflow-cast-out c = let f = share-fits c in omega (arith, ints)
+pub overflow_cast-out : goal.overflow_cast-out
+overflow_cast-out c = let f = share-fits c in omega (arith, ints)
 
 pub loop-i-preserved : goal.loop-i-preserved
 loop-i-preserved c =

@@ -8,4 +8,4 @@ use Rattle.worked.proofs.worked_month.Goals as goal
 
 pub returns : goal.returns
 unfolding nearest running shares_after shares charged
-returns c = record { correction = refl; worked = worked-month; rounds-down = div_euclid-floor }
+returns c = record { correction = refl; worked = worked-month; rounds_down = div_euclid-floor }

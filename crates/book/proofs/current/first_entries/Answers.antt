@@ -8,4 +8,4 @@ pub returns : goal.returns
 returns c =
     let j = c.args.journal.now in
     let few : c.from.result - 0 ≡ min c.args.count (count_of j) = omega (arith, c.from.ensures, c.min.ensures, c.counted.ensures) in
-    ap (λ xs. map noted (take (c.from.result - 0) xs)) c.as-slice.ensures.value ∙ first_counted (vec_items j) c.args.count (count_of j) (c.from.result - 0) few
+    ap (λ xs. map noted (take (c.from.result - 0) xs)) c.as_slice.ensures.value ∙ first_counted (vec_items j) c.args.count (count_of j) (c.from.result - 0) few

@@ -5,8 +5,8 @@ use Rattle.division.specs.Shares.{int_sum}
 use Rattle.book.proofs.Differences.{cast-sum, sum-next}
 use Rattle.book.proofs.netting.sum.Goals as goal
 
-pub overflow-add-all : goal.overflow-add-all
-overflow-add-all c = (cast-sum _ (get_or c.args.amounts.now c.loop-x.x-index (pos 0)) (omega (arith, c.loop-x.invariant.1, c.requires.few, c.loop-x-test.true)) (c.requires.small c.loop-x.x-index)).0
+pub overflow_add-all : goal.overflow_add-all
+overflow_add-all c = (cast-sum _ (get_or c.args.amounts.now c.loop-x.x-index (pos 0)) (omega (arith, c.loop-x.invariant.1, c.requires.few, c.loop-x-test.true)) (c.requires.small c.loop-x.x-index)).0
 
 pub loop-x-preserved : goal.loop-x-preserved
 loop-x-preserved c =

@@ -6,11 +6,11 @@ use Rattle.book.proofs.Differences.{length-less}
 use Rattle.book.proofs.Posted.{lines_more, lines-all, cents-long, difference-fits, difference-is, difference-small}
 use Rattle.book.proofs.post.add_lines.Goals as goal
 
-pub overflow-sub-nets : goal.overflow-sub-nets
-overflow-sub-nets g c = difference-fits c.args.nets.now c.args.before.now c.loop-i.i c.loop-i-test.true c.requires.many c.requires.small.0 c.requires.small.1
+pub overflow_sub-nets : goal.overflow_sub-nets
+overflow_sub-nets g c = difference-fits c.args.nets.now c.args.before.now c.loop-i.i c.loop-i-test.true c.requires.many c.requires.small.0 c.requires.small.1
 
-pub add-line-requires : goal.add-line-requires
-add-line-requires g c =
+pub add_line-requires : goal.add_line-requires
+add_line-requires g c =
     let n = c.args.nets.now in
     record {
       line = (c.requires.month, omega (arith, n.few, c.loop-i-test.true), c.requires.mark.0, c.requires.mark.1, difference-small n c.args.before.now c.loop-i.i c.loop-i-test.true c.requires.many c.requires.small.0 c.requires.small.1);
@@ -25,8 +25,8 @@ loop-i-preserved g c =
     let n = c.args.nets.now in
     let b = c.args.before.now in
     let i = c.loop-i.i in (
-      lines_more _ _ _ c.args.month c.args.mark i (less (netsIn n) (netsIn b)) _ (cents-long n b i c.loop-i-test.true c.requires.many) (difference-is n b i c.loop-i-test.true c.requires.many c.requires.small.0 c.requires.small.1) c.add-line.ensures.lines c.loop-i.invariant.0,
-      omega (arith, c.loop-i.invariant.1, c.add-line.ensures.spare),
+      lines_more _ _ _ c.args.month c.args.mark i (less (netsIn n) (netsIn b)) _ (cents-long n b i c.loop-i-test.true c.requires.many) (difference-is n b i c.loop-i-test.true c.requires.many c.requires.small.0 c.requires.small.1) c.add_line.ensures.lines c.loop-i.invariant.0,
+      omega (arith, c.loop-i.invariant.1, c.add_line.ensures.spare),
     )
 
 pub returns : goal.returns

@@ -25,8 +25,8 @@ loop-i-preserved c =
     let long : 16 ≤ length s.readings = search rules in
     let f-is = get_or_default s.filings i c.index-standing-i.result None (omega arith) in
     let m-is = get_or_default s.readings i c.index-standing-i-in-loop-i.result None (omega arith) in (
-      λ month entries force. rows_more month entries c.args.areas.now c.loop-i.rows i c.row-for.result s _ _ c.loop-i-test.true room force few f-is m-is c.row-for.ensures.value (c.loop-i.invariant.0 month entries force),
-      within-set c.loop-i.rows i c.row-for.result room c.row-for.ensures.within c.loop-i.invariant.1,
+      λ month entries force. rows_more month entries c.args.areas.now c.loop-i.rows i c.row_for.result s _ _ c.loop-i-test.true room force few f-is m-is c.row_for.ensures.value (c.loop-i.invariant.0 month entries force),
+      within-set c.loop-i.rows i c.row_for.result room c.row_for.ensures.within c.loop-i.invariant.1,
       simp length-set c.loop-i.invariant.2,
     )
 

@@ -5,12 +5,12 @@ use Rattle.book.specs.Workings.{reading_check, reading_of}
 use Rattle.book.proofs.Tabling.{none-tells}
 use Rattle.book.proofs.rows.first_unread.Goals as goal
 
-pub returns-then-is-none : goal.returns-then-is-none
-returns-then-is-none c month entries force =
+pub returns-then-is_none : goal.returns-then-is_none
+returns-then-is_none c month entries force =
     let i = c.loop-i.i in
     let s = c.args.standing.now in
     let long : 16 ≤ length s.readings = search rules in
-    let fails = none-tells metered_of s.readings i c.index-standing-i.result (reading_of month entries i) true (omega (arith, c.requires, c.loop-i-test.true)) (force.readings i (omega (arith, c.requires, c.loop-i-test.true))) c.if-is-none.ensures in
+    let fails = none-tells metered_of s.readings i c.index-standing-i.result (reading_of month entries i) true (omega (arith, c.requires, c.loop-i-test.true)) (force.readings i (omega (arith, c.requires, c.loop-i-test.true))) c.if-is_none.ensures in
     fault-found (reading_check month entries) c.args.areas.now i 0 (c.loop-i.invariant month entries force) c.loop-i-test.true fails
 
 pub loop-i-preserved : goal.loop-i-preserved
@@ -18,7 +18,7 @@ loop-i-preserved c month entries force =
     let i = c.loop-i.i in
     let s = c.args.standing.now in
     let long : 16 ≤ length s.readings = search rules in
-    let passes = none-tells metered_of s.readings i c.index-standing-i.result (reading_of month entries i) false (omega (arith, c.requires, c.loop-i-test.true)) (force.readings i (omega (arith, c.requires, c.loop-i-test.true))) c.if-is-none.ensures in
+    let passes = none-tells metered_of s.readings i c.index-standing-i.result (reading_of month entries i) false (omega (arith, c.requires, c.loop-i-test.true)) (force.readings i (omega (arith, c.requires, c.loop-i-test.true))) c.if-is_none.ensures in
     fault-passed (reading_check month entries) c.args.areas.now i 0 (c.loop-i.invariant month entries force) c.loop-i-test.true passes
 
 pub returns : goal.returns

@@ -14,8 +14,8 @@ loop-row-preserved c =
     let r = get_or rows i nobody in
     let fit-e : SFits w64 r.ehv = search rules in
     let fit_n : SFits w64 r.nhv = search rules in
-    let e : c.unsigned-abs-ehv.result ≡ nat_abs r.ehv = c.unsigned-abs-ehv.ensures.value ∙ ap nat_abs (to_z-of_z w64 r.ehv fit-e) in
-    let n : c.unsigned-abs-nhv.result ≡ nat_abs r.nhv = c.unsigned-abs-nhv.ensures.value ∙ ap nat_abs (to_z-of_z w64 r.nhv fit_n) in
+    let e : c.unsigned_abs-ehv.result ≡ nat_abs r.ehv = c.unsigned_abs-ehv.ensures.value ∙ ap nat_abs (to_z-of_z w64 r.ehv fit-e) in
+    let n : c.unsigned_abs-nhv.result ≡ nat_abs r.nhv = c.unsigned_abs-nhv.ensures.value ∙ ap nat_abs (to_z-of_z w64 r.nhv fit_n) in
     let d = row-dollars rows c.requires.within i c.loop-row-test.true in
     let inv = c.loop-row.invariant in (
       omega (arith, inv.0, e, sum_by_more (λ (x : OwnerRow). nat_abs x.ehv) rows i nobody c.loop-row-test.true),
@@ -31,6 +31,6 @@ returns c =
     record {
       ehv = c.loop-row.invariant.0 ∙ ap ehv_size whole;
       nhv = c.loop-row.invariant.1 ∙ ap nhv_size whole;
-      ehv-bound = omega (arith, c.loop-row.invariant.2);
-      nhv-bound = omega (arith, c.loop-row.invariant.3);
+      ehv_bound = omega (arith, c.loop-row.invariant.2);
+      nhv_bound = omega (arith, c.loop-row.invariant.3);
     }

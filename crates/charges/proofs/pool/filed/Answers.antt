@@ -10,8 +10,8 @@ use Rattle.charges.proofs.pool.filed.Goals as goal
 small : (c : goal.After-weight-all) → c.weight-all.result ≤ 180000000
 small c = omega (arith, c.weight-all.ensures, weight-bound c.args.basis _ (row_within c.args.rows.now c.requires c.loop-row.row-index c.loop-row-test.true))
 
-pub overflow-add-all : goal.overflow-add-all
-overflow-add-all c = record { fits = omega (arith, small c, c.loop-row.invariant.1, c.requires.few, c.loop-row-test.true) }
+pub overflow_add-all : goal.overflow_add-all
+overflow_add-all c = record { fits = omega (arith, small c, c.loop-row.invariant.1, c.requires.few, c.loop-row-test.true) }
 
 pub loop-row-preserved : goal.loop-row-preserved
 loop-row-preserved c = (

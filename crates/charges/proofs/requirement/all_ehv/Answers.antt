@@ -24,8 +24,8 @@ module _ (c : goal.After-sum·1) where
       let s = size c.args.rows.now (c.loop-row.row-index + 1) in
       omega (arith, ints, c.loop-row.invariant, c.loop-row.sum_is, more, s, c.requires.existing)
 
-pub overflow-add-sum : goal.overflow-add-sum
-overflow-add-sum c =
+pub overflow_add-sum : goal.overflow_add-sum
+overflow_add-sum c =
     let fit : SFits w64 (row c).ehv = search rules in
     let f = sum_fits c in
     omega (arith, ints, c.loop-row.sum_is)

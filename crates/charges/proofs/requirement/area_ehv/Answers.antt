@@ -16,24 +16,24 @@ module _ (area : ℕ) (rows : List OwnerRow) (i : ℕ) where
   size = sum-front-size (ehv_in area) (λ r. nat_abs r.ehv) one rows i
 
 -- one more row is added
-module _ (c : goal.After-ehv-in-sum) where
-  more : area_ehv c.args.area (take (c.loop-row.row-index + 1) c.args.rows.now) ≡ area_ehv c.args.area (take c.loop-row.row-index c.args.rows.now) +ℤ c.ehv-in-sum.result
-  more = sum_more (ehv_in c.args.area) c.args.rows.now c.loop-row.row-index nobody c.loop-row-test.true ∙ ap (λ z. area_ehv c.args.area (take c.loop-row.row-index c.args.rows.now) +ℤ z) (sym c.ehv-in-sum.ensures)
+module _ (c : goal.After-ehv_in-sum) where
+  more : area_ehv c.args.area (take (c.loop-row.row-index + 1) c.args.rows.now) ≡ area_ehv c.args.area (take c.loop-row.row-index c.args.rows.now) +ℤ c.ehv_in-sum.result
+  more = sum_more (ehv_in c.args.area) c.args.rows.now c.loop-row.row-index nobody c.loop-row-test.true ∙ ap (λ z. area_ehv c.args.area (take c.loop-row.row-index c.args.rows.now) +ℤ z) (sym c.ehv_in-sum.ensures)
 
-  sum_fits : SFits w64 (c.loop-row.sum +ℤ c.ehv-in-sum.result)
+  sum_fits : SFits w64 (c.loop-row.sum +ℤ c.ehv_in-sum.result)
   sum_fits =
       let s = size c.args.area c.args.rows.now (c.loop-row.row-index + 1) in
       omega (arith, ints, c.loop-row.invariant, c.loop-row.sum_is, more, s, c.requires.existing)
 
-pub overflow-add-sum : goal.overflow-add-sum
-overflow-add-sum c =
-    let fit : SFits w64 c.ehv-in-sum.result = record { sfits = c.ehv-in-sum.type-inv } in
+pub overflow_add-sum : goal.overflow_add-sum
+overflow_add-sum c =
+    let fit : SFits w64 c.ehv_in-sum.result = record { sfits = c.ehv_in-sum.type_inv } in
     let f = sum_fits c in
     omega (arith, ints, c.loop-row.sum_is)
 
 pub loop-row-preserved : goal.loop-row-preserved
 loop-row-preserved c =
-    let fit : SFits w64 c.ehv-in-sum.result = record { sfits = c.ehv-in-sum.type-inv } in
+    let fit : SFits w64 c.ehv_in-sum.result = record { sfits = c.ehv_in-sum.type_inv } in
     let f = sum_fits c in
     omega (arith, ints, c.loop-row.invariant, c.loop-row.sum_is, more c)
 

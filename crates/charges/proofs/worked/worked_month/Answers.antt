@@ -8,4 +8,4 @@ use Rattle.charges.proofs.worked.worked_month.Goals as goal
 
 pub returns : goal.returns
 unfolding nearest running shares_after shares charged
-returns c = record { count = refl; worked = record { volumetric_eight = λ _. refl; hybrid_fifty = λ _. refl }; layers = worked-layers; rounds-down = div_euclid-floor }
+returns c = record { count = refl; worked = record { volumetric_eight = λ _. refl; hybrid_fifty = λ _. refl }; layers = worked-layers; rounds_down = div_euclid-floor }

@@ -18,8 +18,8 @@ pub put-at-requires-2 : goal.put-at-requires-2
 put-at-requires-2 c =
     omega (arith, length-pair_text c.args.month c.args.owner c.args.cents, ap (λ n. length (decimal n)) c.from.ensures, ap (λ n. length (decimal n)) c.from-2.ensures)
 
-pub signed-number-at-requires : goal.signed-number-at-requires
-signed-number-at-requires c =
+pub signed_number-at-requires : goal.signed_number-at-requires
+signed_number-at-requires c =
     let back = ap (λ z. length (signed_decimal z)) (to_z-of_z w64 c.args.cents c.ranges.cents) in
     omega (arith, length-pair_text c.args.month c.args.owner c.args.cents, ap (λ n. length (decimal n)) c.from.ensures, ap (λ n. length (decimal n)) c.from-2.ensures)
 
@@ -33,5 +33,5 @@ returns c =
     let back : to_z w64 (of_z w64 c.args.cents) ≡ c.args.cents = to_z-of_z w64 c.args.cents c.ranges.cents in
     let month = rw c.from.ensures at c.number-at.ensures in
     let owner = rw c.from-2.ensures at c.number-at-2.ensures in
-    let sum = rw back at c.signed-number-at.ensures in
+    let sum = rw back at c.signed_number-at.ensures in
     wrote_then month (wrote_then c.put-at.ensures (wrote_then owner (wrote_then c.put-at-2.ensures (wrote_then sum c.put.ensures))))

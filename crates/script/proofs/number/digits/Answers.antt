@@ -26,6 +26,6 @@ pub returns : goal.returns
 returns c =
     let ws = c.args.word.now in
     let m = c.loop-b.invariant.0 in
-    let some : 0 < length ws = grind (arith, nat_tests, c.if-is-empty.ensures) in
+    let some : 0 < length ws = grind (arith, nat_tests, c.if-is_empty.ensures) in
     let all : digits_of ws ≡ Some m = some-digits ws some ∙ (c.loop-b.invariant.2 ∙ ends m c.loop-b.b-index ws c.loop-b-test.false) in
     ap Some c.loop-b.invariant.1 ∙ sym (ap (option_map clipped) all)

@@ -13,12 +13,12 @@ returns c =
     let n = before 32 d in
     let same : from ≡ d = take_rest ls s ∙ ap (λ k. drop k ls) c.spaces.ensures.value in
     let cut : c.until.result ≡ n = c.until.ensures.value ∙ ap (before 32) same in
-    let front : c.split-at.result.0.now ≡ take n d = c.split-at.ensures.front ∙ (ap (λ k. take k from) cut ∙ ap (take n) same) in
-    let back : c.split-at.result.1.now ≡ drop n d = c.split-at.ensures.back ∙ (ap (λ k. drop k from) cut ∙ ap (drop n) same) in
+    let front : c.split_at.result.0.now ≡ take n d = c.split_at.ensures.front ∙ (ap (λ k. take k from) cut ∙ ap (take n) same) in
+    let back : c.split_at.result.1.now ≡ drop n d = c.split_at.ensures.back ∙ (ap (λ k. drop k from) cut ∙ ap (drop n) same) in
     record {
       words =
           spaces-part-nothing ls
-          ∙ (word_first [] d ∙ sym (ap (λ f. ended f (words_of c.split-at.result.1.now)) front ∙ ap (λ b. ended (take n d) (words_of b)) back));
-      none = λ z. no_word ls (omega (arith, z, c.split-at.ensures.front-len, cut));
+          ∙ (word_first [] d ∙ sym (ap (λ f. ended f (words_of c.split_at.result.1.now)) front ∙ ap (λ b. ended (take n d) (words_of b)) back));
+      none = λ z. no_word ls (omega (arith, z, c.split_at.ensures.front-len, cut));
       shorter = search rules;
     }

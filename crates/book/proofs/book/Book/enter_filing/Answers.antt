@@ -13,8 +13,8 @@ returns g c =
     let owners : length (areas_of b) ≡ b.count = length-take-le b.count b.areas b.fits in
     let e = to_z-of_z w64 c.args.ehv c.ranges.ehv in
     let n = to_z-of_z w64 c.args.nhv c.ranges.nhv in
-    let figures = rw (e, n) at c.if-outside-filing.ensures in
+    let figures = rw (e, n) at c.if-outside_filing.ensures in
     record {
-      answer = filing-granted _ (length (areas_of b)) (vec_len j) (vec_capacity j) (filed_as c.args.owner c.args.first c.args.last c.args.ehv c.args.nhv c.args.load c.args.peak) c.len-number.ensures (omega arith) (sym c.if-outside-months.ensures) (sym figures) (sym c.if-is-full.ensures);
-      journal = (rw (e, n) at (ap (map noted) c.push-reserved.ensures.items ∙ map_push noted (vec_items j) _), c.push-reserved.ensures.capacity);
+      answer = filing-granted _ (length (areas_of b)) (vec_len j) (vec_capacity j) (filed_as c.args.owner c.args.first c.args.last c.args.ehv c.args.nhv c.args.load c.args.peak) c.len-number.ensures (omega arith) (sym c.if-outside_months.ensures) (sym figures) (sym c.if-is_full.ensures);
+      journal = (rw (e, n) at (ap (map noted) c.push_reserved.ensures.items ∙ map_push noted (vec_items j) _), c.push_reserved.ensures.capacity);
     }

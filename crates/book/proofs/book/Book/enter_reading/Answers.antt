@@ -12,6 +12,6 @@ returns g c =
     let j = c.args.journal.now in
     let owners : length (areas_of b) ≡ b.count = length-take-le b.count b.areas b.fits in
     record {
-      answer = reading-granted _ (length (areas_of b)) (vec_len j) (vec_capacity j) (metered_as c.args.month c.args.owner c.args.load c.args.peak) c.len-number.ensures (omega arith) (le-ltb 359 _ c.if-month-gt359.false) (or_from _ _ (le-ltb 100000000 _ c.if-load-gt100000000.false) (le-ltb 100000 _ c.if-peak-gt100000.false)) (sym c.if-is-full.ensures);
-      journal = (ap (map noted) c.push-reserved.ensures.items ∙ map_push noted (vec_items j) _, c.push-reserved.ensures.capacity);
+      answer = reading-granted _ (length (areas_of b)) (vec_len j) (vec_capacity j) (metered_as c.args.month c.args.owner c.args.load c.args.peak) c.len-number.ensures (omega arith) (le-ltb 359 _ c.if-month-gt359.false) (or_from _ _ (le-ltb 100000000 _ c.if-load-gt100000000.false) (le-ltb 100000 _ c.if-peak-gt100000.false)) (sym c.if-is_full.ensures);
+      journal = (ap (map noted) c.push_reserved.ensures.items ∙ map_push noted (vec_items j) _, c.push_reserved.ensures.capacity);
     }

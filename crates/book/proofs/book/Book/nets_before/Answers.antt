@@ -5,8 +5,8 @@ use Rattle.book.specs.Postings.{nets_before}
 use Rattle.book.proofs.Postable.{zeros_within}
 use Rattle.book.proofs.book.Book.nets_before.Goals as goal
 
-pub returns-in-default : goal.returns-in-default
-returns-in-default g c =
+pub returns-in_default : goal.returns-in_default
+returns-in_default g c =
     let b = c.args.self.now in
     let owners : length (areas_of b) ≡ b.count = length-take-le b.count b.areas b.fits in
     let zeros : take b.count (replicate 16 (pos 0)) ≡ replicate b.count (pos 0) = take-replicate b.count 16 (pos 0) b.few in

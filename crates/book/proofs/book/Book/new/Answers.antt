@@ -20,6 +20,6 @@ returns g c =
     let fine : (eqb (length areas) 0 || (ltb 16 (length areas) || any_by (λ a. ltb 2 a) areas)) ≡ false =
     or_from _ _ (ne_eqb _ _ c.if-areas-eq0.false) (or_from _ _ (le-ltb _ _ c.if-areas-gt16.false) (sym c.if-strays.ensures)) in
     record {
-      book = (ap (λ b. cond b (Some (plain 1)) None) fine, c.placed-areas.ensures.value, refl, unmarked);
-      begins = λ journal free empty. record { areas_are = c.placed-areas.ensures.value; meaning_is = refl; accounts = begun areas (g.C.Charge.meaning c.args.charge) _ (entries_of journal) (vec_capacity journal) free unmarked empty };
+      book = (ap (λ b. cond b (Some (plain 1)) None) fine, c.placed_areas.ensures.value, refl, unmarked);
+      begins = λ journal free empty. record { areas_are = c.placed_areas.ensures.value; meaning_is = refl; accounts = begun areas (g.C.Charge.meaning c.args.charge) _ (entries_of journal) (vec_capacity journal) free unmarked empty };
     }

@@ -2,10 +2,10 @@ use Rattle.std.proofs.Common.{◌≡◌, sym}
 use Rattle.std.proofs.lemmas.Result.{err_from_is_err_and}
 use Rattle.book.proofs.book.Book.open_written.Goals as goal
 
-pub returns-in-err-opening : goal.returns-in-err-opening
-returns-in-err-opening g c =
-    let p = err_from_is_err_and c.from-residual.result c.from-residual.ensures.1 in
-    rw (p.1, p.2) c.in-err-opening.ensures.law
+pub returns-in_err-opening : goal.returns-in_err-opening
+returns-in_err-opening g c =
+    let p = err_from_is_err_and c.from_residual.result c.from_residual.ensures.1 in
+    rw (p.1, p.2) c.in_err-opening.ensures.law
 
 pub returns : goal.returns
-returns g c = rw (c.count-count.ensures, c.month-month.ensures) c.in-ok-opening.ensures.law
+returns g c = rw (c.count-count.ensures, c.month-month.ensures) c.in_ok-opening.ensures.law

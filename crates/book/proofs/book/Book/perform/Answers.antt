@@ -35,7 +35,7 @@ returns-in-Open g c =
     record {
       kept = behind (g.R.Roll.lines a.roll.now);
       law = λ t h earlier before after is is' account.
-          renamed (g.C.Charge.meaning a.self.now.charge) t h a.self.now a.journal.now (g.R.Roll.spare a.roll.now) _ _ _ _ before after (ap request_of (sym c.in-Open.is)) refl (same_lines (g.R.Roll.lines a.roll.now) earlier before after is is') (c.open-written.ensures t h before (g.R.Roll.spare a.roll.now) account);
+          renamed (g.C.Charge.meaning a.self.now.charge) t h a.self.now a.journal.now (g.R.Roll.spare a.roll.now) _ _ _ _ before after (ap request_of (sym c.in-Open.is)) refl (same_lines (g.R.Roll.lines a.roll.now) earlier before after is is') (c.open_written.ensures t h before (g.R.Roll.spare a.roll.now) account);
     }
 
 pub returns-in-Post : goal.returns-in-Post

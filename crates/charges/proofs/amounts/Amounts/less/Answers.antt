@@ -6,10 +6,10 @@ use Rattle.charges.specs.Burdens.{along}
 use Rattle.charges.proofs.Writing.{column-more, column-all, amount-below, pair-long, pair-at}
 use Rattle.charges.proofs.amounts.Amounts.less.Goals as goal
 
-pub overflow-sub-items : goal.overflow-sub-items
-overflow-sub-items c =
+pub overflow_sub-items : goal.overflow_sub-items
+overflow_sub-items c =
     let p = amount-below c.args.self.now 1000000000000000 c.loop-i.i c.loop-i-test.true c.requires.bound in
-    let q = amount-below c.args.other.now 1000000000000000 c.loop-i.i (omega (arith, c.requires.same, c.loop-i-test.true)) c.requires.other-bound in
+    let q = amount-below c.args.other.now 1000000000000000 c.loop-i.i (omega (arith, c.requires.same, c.loop-i-test.true)) c.requires.other_bound in
     omega (arith, ints)
 
 pub loop-i-preserved : goal.loop-i-preserved
@@ -20,7 +20,7 @@ loop-i-preserved c =
     let x = get_or a.items i (pos 0) in
     let y = get_or b.items i (pos 0) in
     let p = amount-below a 1000000000000000 i c.loop-i-test.true c.requires.bound in
-    let q = amount-below b 1000000000000000 i (omega (arith, c.requires.same, c.loop-i-test.true)) c.requires.other-bound in
+    let q = amount-below b 1000000000000000 i (omega (arith, c.requires.same, c.loop-i-test.true)) c.requires.other_bound in
     let fit-x : SFits w64 x = omega (arith, ints) in
     let fit-y : SFits w64 y = omega (arith, ints) in
     let fit : SFits w64 (x -ℤ y) = omega (arith, ints) in

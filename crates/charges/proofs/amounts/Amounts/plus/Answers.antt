@@ -9,10 +9,10 @@ use Rattle.charges.proofs.amounts.Amounts.plus.Goals as goal
 small : (a : Amounts) (i : ℕ) → i < a.count → AllBelow 1000000000000000 (amounts_of a) → nat_abs (get_or a.items i (pos 0)) ≤ 1000000000000000
 small a i h all = let e = get_or-take a.count a.items i (pos 0) h in rw e at (all i)
 
-pub overflow-add-items : goal.overflow-add-items
-overflow-add-items c =
+pub overflow_add-items : goal.overflow_add-items
+overflow_add-items c =
     let a = small c.args.self.now c.loop-i.i c.loop-i-test.true c.requires.bound in
-    let b = small c.args.more.now c.loop-i.i (omega (arith, c.requires.same, c.loop-i-test.true)) c.requires.more-bound in
+    let b = small c.args.more.now c.loop-i.i (omega (arith, c.requires.same, c.loop-i-test.true)) c.requires.more_bound in
     omega (arith, ints)
 
 pub loop-i-preserved : goal.loop-i-preserved
@@ -23,7 +23,7 @@ loop-i-preserved c =
     let x = get_or a.items i (pos 0) in
     let y = get_or b.items i (pos 0) in
     let p = small a i c.loop-i-test.true c.requires.bound in
-    let q = small b i (omega (arith, c.requires.same, c.loop-i-test.true)) c.requires.more-bound in
+    let q = small b i (omega (arith, c.requires.same, c.loop-i-test.true)) c.requires.more_bound in
     let fit-x : SFits w64 x = omega (arith, ints) in
     let fit-y : SFits w64 y = omega (arith, ints) in
     let fit : SFits w64 (x +ℤ y) = omega (arith, ints) in (

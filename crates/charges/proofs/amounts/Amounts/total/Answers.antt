@@ -6,8 +6,8 @@ use Rattle.charges.specs.Amounts.{amounts_of}
 use Rattle.charges.proofs.Writing.{amounts-long, amount-at, amount-below, sum_step}
 use Rattle.charges.proofs.amounts.Amounts.total.Goals as goal
 
-pub overflow-add-sum : goal.overflow-add-sum
-overflow-add-sum c =
+pub overflow_add-sum : goal.overflow_add-sum
+overflow_add-sum c =
     let a = c.args.self.now in
     let p = amount-below a 1000000000000000 c.loop-i.i c.loop-i-test.true c.requires in
     let q = c.loop-i.invariant.1 in

@@ -16,8 +16,8 @@ loop-i-preserved c =
     let x = get_or a.items i (pos 0) in
     let fit : SFits w64 x = search rules in
     let at = get_or-map nat_abs (amounts_of a) i (pos 0) 0 (omega (arith, amounts-long a, c.loop-i-test.true)) ∙ ap nat_abs (amount-at a i c.loop-i-test.true) in
-    let is = c.unsigned-abs.ensures.value ∙ ap nat_abs (to_z-of_z w64 x fit) ∙ sym at in (
-      column-more (map nat_abs (amounts_of a)) c.loop-i.all i c.loop-i.invariant.0 0 c.unsigned-abs.result
+    let is = c.unsigned_abs.ensures.value ∙ ap nat_abs (to_z-of_z w64 x fit) ∙ sym at in (
+      column-more (map nat_abs (amounts_of a)) c.loop-i.all i c.loop-i.invariant.0 0 c.unsigned_abs.result
           (omega (arith, long a, c.loop-i-test.true)) (omega (arith, c.loop-i.invariant.1, a.few, c.loop-i-test.true)) is,
       simp length-set c.loop-i.invariant.1,
     )

@@ -8,7 +8,7 @@ less-mitigations-requires c =
     record {
       same = payments-counted s a c.requires c.payments.result c.read-excess.result c.payments.ensures c.read-excess.ensures;
       bound = payments-held s a c.requires c.payments.result c.read-excess.result c.payments.ensures c.read-excess.ensures;
-      other-bound = excess-held s a c.requires c.read-excess.result c.read-excess.ensures;
+      other_bound = excess-held s a c.requires c.read-excess.result c.read-excess.ensures;
     }
 
 pub plus-requires : goal.plus-requires
@@ -18,7 +18,7 @@ plus-requires c =
     record {
       same = mitigations-counted s a c.requires c.payments.result c.read-excess.result c.payments.ensures c.read-excess.ensures c.less-mitigations.result c.less-mitigations.ensures;
       bound = burdens-held s a c.requires;
-      more-bound = mitigations-held s a c.requires c.payments.result c.read-excess.result c.payments.ensures c.read-excess.ensures c.less-mitigations.result c.less-mitigations.ensures;
+      more_bound = mitigations-held s a c.requires c.payments.result c.read-excess.result c.payments.ensures c.read-excess.ensures c.less-mitigations.result c.less-mitigations.ensures;
     }
 
 pub returns : goal.returns

@@ -21,16 +21,16 @@ pub plus-requires : goal.plus-requires
 plus-requires c =
     let s = c.args.self.now in
     let a = c.args.burdens.now in
-    let fit : SFits w64 c.total-capped.result = record { sfits = c.total-capped.type-inv } in
+    let fit : SFits w64 c.total-capped.result = record { sfits = c.total-capped.type_inv } in
     record {
       same = again-counted s a c.requires c.adjusted-adjusted.result c.adjusted-adjusted.ensures c.read.result c.read-caps.result c.divided.result c.total-capped.result fit c.total-capped.ensures c.read.ensures c.read-caps.ensures c.divided.ensures c.read-own.result c.read-own.ensures;
       bound = again-held s a c.requires c.adjusted-adjusted.result c.adjusted-adjusted.ensures c.read.result c.read-caps.result c.divided.result c.total-capped.result fit c.total-capped.ensures c.read.ensures c.read-caps.ensures c.divided.ensures;
-      more-bound = own_held s a c.requires c.adjusted-adjusted.result c.adjusted-adjusted.ensures c.read-own.result c.read-own.ensures;
+      more_bound = own_held s a c.requires c.adjusted-adjusted.result c.adjusted-adjusted.ensures c.read-own.result c.read-own.ensures;
     }
 
 pub returns : goal.returns
 returns c =
-    let fit : SFits w64 c.total-capped.result = record { sfits = c.total-capped.type-inv } in
+    let fit : SFits w64 c.total-capped.result = record { sfits = c.total-capped.type_inv } in
     finals-are c.args.self.now c.args.burdens.now c.requires c.adjusted-adjusted.result c.adjusted-adjusted.ensures
     c.read.result c.read-caps.result c.divided.result c.total-capped.result fit c.total-capped.ensures c.read.ensures c.read-caps.ensures c.divided.ensures
     c.plus.result c.read-own.result c.read-own.ensures c.plus.ensures

@@ -10,8 +10,8 @@ total-excess-requires c = excess-held c.args.self.now c.args.burdens.now c.requi
 pub total-room-requires : goal.total-room-requires
 total-room-requires c = headroom-held c.args.self.now c.args.burdens.now c.requires c.read-headroom.result c.read-headroom.ensures
 
-pub overflow-sub-excess : goal.overflow-sub-excess
-overflow-sub-excess c =
+pub overflow_sub-excess : goal.overflow_sub-excess
+overflow_sub-excess c =
     rest-fits c.args.self.now c.args.burdens.now c.requires c.total-excess.result c.total-room.result
     (c.total-excess.ensures ∙ ap int_sum c.read.ensures) (c.total-room.ensures ∙ ap int_sum c.read-headroom.ensures)
 
@@ -27,7 +27,7 @@ plus-requires c =
     record {
       same = gauge-counted s a c.requires headroom c.read-headroom.result c.read-headroom.ensures ∙ sym (rest-counted s a c.requires c.total-excess.result c.total-room.result x-is h-is c.divided.result c.read-benefit.result c.read-benefit.ensures c.divided.ensures);
       bound = headroom-held s a c.requires c.read-headroom.result c.read-headroom.ensures;
-      more-bound = rest-held s a c.requires c.total-excess.result c.total-room.result x-is h-is c.divided.result c.read-benefit.result c.read-benefit.ensures c.divided.ensures;
+      more_bound = rest-held s a c.requires c.total-excess.result c.total-room.result x-is h-is c.divided.result c.read-benefit.result c.read-benefit.ensures c.divided.ensures;
     }
 
 pub divided-requires-else-room-excess : goal.divided-requires-else-room-excess

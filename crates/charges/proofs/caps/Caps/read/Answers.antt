@@ -21,7 +21,7 @@ loop-i-preserved c =
     let x = get_or a.items i (pos 0) in
     let p = amount-below a 1000000000000000 i c.loop-i-test.true c.requires in
     let fit-x : SFits w64 x = omega (arith, ints) in
-    let fit : SFits w64 c.of.result = record { sfits = c.of.type-inv } in
+    let fit : SFits w64 c.of.result = record { sfits = c.of.type_inv } in
     let is = to_z-of_z w64 c.of.result fit ∙ c.of.ensures ∙ ap (gauge c.args.which (get_or s.items i 0)) (to_z-of_z w64 x fit-x) ∙ gauge-at (gauge c.args.which) s.items a s.long i c.loop-i-test.true in (
       column-more (along (gauge c.args.which) (take a.count s.items) (amounts_of a)) c.loop-i.items i c.loop-i.invariant.0 (pos 0) _
           (omega (arith, gauge-long (gauge c.args.which) s.items a s.long, c.loop-i-test.true)) (omega (arith, c.loop-i.invariant.1, a.few, c.loop-i-test.true)) is,

@@ -8,7 +8,7 @@ less-requires c =
     record {
       same = finals-counted s a c.requires c.finals.result c.finals.ensures;
       bound = finals-held s a c.requires c.finals.result c.finals.ensures;
-      other-bound = burdens-held s a c.requires;
+      other_bound = burdens-held s a c.requires;
     }
 
 pub returns : goal.returns

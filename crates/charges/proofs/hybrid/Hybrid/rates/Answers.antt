@@ -11,4 +11,4 @@ returns c =
     let rows = rows_of c.args.table.now in
     let pools-are = c.pools-pools.ensures.pools ∙ ap (hybrid_pools setting) c.rows.ensures.rows in
     let row_is = sym c.row.ensures ∙ c.in-Some.is in
-    ap Some (c.rates-for.ensures ∙ ap (λ pools. rates_for pools c.in-Some.row) pools-are) ∙ sym (ap (option_map (rates_for (hybrid_pools setting rows))) row_is)
+    ap Some (c.rates_for.ensures ∙ ap (λ pools. rates_for pools c.in-Some.row) pools-are) ∙ sym (ap (option_map (rates_for (hybrid_pools setting rows))) row_is)

@@ -6,7 +6,7 @@ use Rattle.charges.proofs.hybrid.HybridCharge.ask.Goals as goal
 pub returns : goal.returns
 returns c = record {
   meant =
-      c.charge-by.ensures
+      c.charge_by.ensures
       ∙ ap (λ pools. charged pools c.rows-rows.result.now) c.pools-pools.ensures.pools
       ∙ ap (hybrid c.args.self.now.percent c.args.-month) c.rows-rows.ensures.rows;
 }

@@ -3,13 +3,13 @@ use Rattle.charges.specs.Rows.{ehv_size, nhv_size, RequiredWithin, UsedWithin}
 use Rattle.charges.proofs.Limits.{row-used, row-required, kept_at}
 use Rattle.charges.proofs.table.Table.new.Goals as goal
 
-pub invariant-of-result : goal.invariant-of-result
-invariant-of-result c =
+pub invariant_of-result : goal.invariant_of-result
+invariant_of-result c =
     let rows = c.args.rows.now in
     let kept = c.kept.result in
     let same = c.kept.ensures in
-    let figures = sym c.some-figure-outside.ensures ∙ c.if-some-figure-outside.false in
-    let areas = sym c.some-area-outside.ensures ∙ c.if-some-area-outside.false in
+    let figures = sym c.some_figure_outside.ensures ∙ c.if-some_figure_outside.false in
+    let areas = sym c.some_area_outside.ensures ∙ c.if-some_area_outside.false in
     let some : 1 ≤ length rows = search rules in
     let long : length kept ≡ 16 = search rules in
     let s = c.sizes-ehv.ensures in

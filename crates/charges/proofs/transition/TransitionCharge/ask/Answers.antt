@@ -6,8 +6,8 @@ use Rattle.charges.specs.Transition.{on_top}
 use Rattle.charges.proofs.Settling.{small-below}
 use Rattle.charges.proofs.transition.TransitionCharge.ask.Goals as goal
 
-pub add-to-requires : goal.add-to-requires
-add-to-requires g c =
+pub add_to-requires : goal.add_to-requires
+add_to-requires g c =
     let rows = c.rows-rows.result.now in
     let are = c.rows-rows.ensures.rows in
     let meant = c.in-Ok.ensures.meant ∙ ap (g.C.Charge.meaning c.args.self.now.below c.args.month) (sym are) in
@@ -18,8 +18,8 @@ add-to-requires g c =
       rows = good;
       parts = one.0;
       bills = one.1;
-      part-bound = small-below (amounts_of c.in-Ok.billing.parts) small.0;
-      bill-bound = small-below (amounts_of c.in-Ok.billing.bills) small.1;
+      part_bound = small-below (amounts_of c.in-Ok.billing.parts) small.0;
+      bill_bound = small-below (amounts_of c.in-Ok.billing.bills) small.1;
     }
 
 pub returns-in-Ok : goal.returns-in-Ok
@@ -28,7 +28,7 @@ returns-in-Ok g c =
     let are = c.rows-rows.ensures.rows in
     record {
       meant =
-          c.add-to.ensures
+          c.add_to.ensures
           ∙ ap (λ rows. on_top s.caps.existing.tenths s.caps.items rows (billed (amounts_of c.in-Ok.billing.parts) (amounts_of c.in-Ok.billing.bills))) are
           ∙ ap (on_top s.caps.existing.tenths s.caps.items (rows_of c.args.table.now)) c.in-Ok.ensures.meant;
     }

@@ -7,28 +7,28 @@ use Rattle.charges.specs.declared.pool.Basis.TheVariants.{AreaLoad, GridLoad}
 use Rattle.charges.proofs.Portions.{rest-fits, grid-fits, grid-is, grid-small}
 use Rattle.charges.proofs.volumetric.Volumetric.pools.Goals as goal
 
-pub overflow-sub-grid : goal.overflow-sub-grid
-overflow-sub-grid c = rest-fits c.all-ehv.result (pos 0) c.area-pool-north.result c.area-pool-east.result c.area-pool-south.result c.all-ehv.ensures.bound (omega arith) c.area-pool-north.ensures.bound c.area-pool-east.ensures.bound c.area-pool-south.ensures.bound
+pub overflow_sub-grid : goal.overflow_sub-grid
+overflow_sub-grid c = rest-fits c.all_ehv.result (pos 0) c.area_pool-north.result c.area_pool-east.result c.area_pool-south.result c.all_ehv.ensures.bound (omega arith) c.area_pool-north.ensures.bound c.area_pool-east.ensures.bound c.area_pool-south.ensures.bound
 
-pub overflow-add-grid-3 : goal.overflow-add-grid-3
-overflow-add-grid-3 c = grid-fits c.all-ehv.result c.all-nhv.result c.area-pool-north.result c.area-pool-east.result c.area-pool-south.result c.all-ehv.ensures.bound c.all-nhv.ensures.bound c.area-pool-north.ensures.bound c.area-pool-east.ensures.bound c.area-pool-south.ensures.bound
+pub overflow_add-grid-3 : goal.overflow_add-grid-3
+overflow_add-grid-3 c = grid-fits c.all_ehv.result c.all_nhv.result c.area_pool-north.result c.area_pool-east.result c.area_pool-south.result c.all_ehv.ensures.bound c.all_nhv.ensures.bound c.area_pool-north.ensures.bound c.area_pool-east.ensures.bound c.area_pool-south.ensures.bound
 
 pub returns : goal.returns
 returns c =
     let rows = c.args.rows.now in
     let k = c.args.self.now.tenths in
-    let n = c.area-pool-north.ensures in
-    let e = c.area-pool-east.ensures in
-    let s = c.area-pool-south.ensures in
-    let ehv = c.all-ehv.ensures in
-    let nhv = c.all-nhv.ensures in
-    let rest : c.all-ehv.result -ℤ (c.area-pool-north.result +ℤ c.area-pool-east.result +ℤ c.area-pool-south.result) +ℤ c.all-nhv.result ≡ grid_pool k rows = rw (n.value, e.value, s.value, ehv.value, nhv.value) in
-    let north = c.new.ensures ∙ ap (λ (z : ℤ). pool_of z (AreaLoad 0) rows) (to_z-of_z w64 _ (record { sfits = c.area-pool-north.type-inv }) ∙ n.value) in
-    let east = c.new-2.ensures ∙ ap (λ (z : ℤ). pool_of z (AreaLoad 1) rows) (to_z-of_z w64 _ (record { sfits = c.area-pool-east.type-inv }) ∙ e.value) in
-    let south = c.new-3.ensures ∙ ap (λ (z : ℤ). pool_of z (AreaLoad 2) rows) (to_z-of_z w64 _ (record { sfits = c.area-pool-south.type-inv }) ∙ s.value) in
-    let grid-sum = grid-is c.all-ehv.result c.all-nhv.result c.area-pool-north.result c.area-pool-east.result c.area-pool-south.result c.all-ehv.ensures.bound c.all-nhv.ensures.bound c.area-pool-north.ensures.bound c.area-pool-east.ensures.bound c.area-pool-south.ensures.bound ∙ rest in
+    let n = c.area_pool-north.ensures in
+    let e = c.area_pool-east.ensures in
+    let s = c.area_pool-south.ensures in
+    let ehv = c.all_ehv.ensures in
+    let nhv = c.all_nhv.ensures in
+    let rest : c.all_ehv.result -ℤ (c.area_pool-north.result +ℤ c.area_pool-east.result +ℤ c.area_pool-south.result) +ℤ c.all_nhv.result ≡ grid_pool k rows = rw (n.value, e.value, s.value, ehv.value, nhv.value) in
+    let north = c.new.ensures ∙ ap (λ (z : ℤ). pool_of z (AreaLoad 0) rows) (to_z-of_z w64 _ (record { sfits = c.area_pool-north.type_inv }) ∙ n.value) in
+    let east = c.new-2.ensures ∙ ap (λ (z : ℤ). pool_of z (AreaLoad 1) rows) (to_z-of_z w64 _ (record { sfits = c.area_pool-east.type_inv }) ∙ e.value) in
+    let south = c.new-3.ensures ∙ ap (λ (z : ℤ). pool_of z (AreaLoad 2) rows) (to_z-of_z w64 _ (record { sfits = c.area_pool-south.type_inv }) ∙ s.value) in
+    let grid-sum = grid-is c.all_ehv.result c.all_nhv.result c.area_pool-north.result c.area_pool-east.result c.area_pool-south.result c.all_ehv.ensures.bound c.all_nhv.ensures.bound c.area_pool-north.ensures.bound c.area_pool-east.ensures.bound c.area_pool-south.ensures.bound ∙ rest in
     let grid = c.new-4.ensures ∙ ap (λ (z : ℤ). pool_of z GridLoad rows) grid-sum in
-    let small = rw rest at (grid-small c.all-ehv.result c.all-nhv.result c.area-pool-north.result c.area-pool-east.result c.area-pool-south.result c.all-ehv.ensures.bound c.all-nhv.ensures.bound c.area-pool-north.ensures.bound c.area-pool-east.ensures.bound c.area-pool-south.ensures.bound) in
+    let small = rw rest at (grid-small c.all_ehv.result c.all_nhv.result c.area_pool-north.result c.area_pool-east.result c.area_pool-south.result c.all_ehv.ensures.bound c.all_nhv.ensures.bound c.area_pool-north.ensures.bound c.area_pool-east.ensures.bound c.area_pool-south.ensures.bound) in
     let small_n = rw n.value at n.bound in
     let small-e = rw e.value at e.bound in
     let small-s = rw s.value at s.bound in

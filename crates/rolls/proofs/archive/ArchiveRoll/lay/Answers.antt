@@ -5,8 +5,8 @@ use Rattle.std.proofs.lemmas.List.{length-set, take-set-le}
 use Rattle.rolls.proofs.Recorded.{kept-lines, kept-within}
 use Rattle.rolls.proofs.archive.ArchiveRoll.lay.Goals as goal
 
-pub invariant-of-self : goal.invariant-of-self
-invariant-of-self c =
+pub invariant_of-self : goal.invariant_of-self
+invariant_of-self c =
     let s = c.loop-i.self in
     let at = c.args.self.now.used * 27 + c.loop-i.i in
     let b = get_or c.encode-record.result c.loop-i.i 0 in

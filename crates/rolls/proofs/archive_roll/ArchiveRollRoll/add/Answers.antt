@@ -15,8 +15,8 @@ returns-then-free-eq0 c =
       untouched = none-untouched s.used s.bytes.now s.fits s.lines;
     }
 
-pub invariant-of-self : goal.invariant-of-self
-invariant-of-self c =
+pub invariant_of-self : goal.invariant_of-self
+invariant_of-self c =
     let s = c.args.self.now in
     let l = laid-behind s.used s.bytes.now (row c.args.line) c.lay.new.self.used c.lay.new.self.bytes.now s.lines s.within c.args.line.within (omega arith) c.lay.ensures.used c.lay.ensures.bytes in
     (l.fits, (omega (arith, c.lay.ensures.used), (l.lines, (l.within, tt))))

@@ -17,8 +17,8 @@ returns-then-place-self c =
     let size : i * 27 + 27 - i * 27 ≡ 27 = omega arith in
     let bytes : take (i * 27 + 27 - i * 27) (drop (i * 27) xs) ≡ encoded (row_at xs i) ++ [] =
     ap (λ n. take n (drop (i * 27) xs)) size ∙ record-at s.used xs i c.if-place-self.true s.lines ∙ sym (append-nil (encoded (row_at xs i))) in
-    let read = c.read-record.ensures.read ∙ ap (reading i) bytes ∙ reads-back (row_at xs i) (s.within i c.if-place-self.true) [] i in
-    record { line = ap (option_map row) c.ok.ensures.value ∙ told-some c.read-record.result (row_at xs i) read ∙ sym (nth-rows_in s.used xs i c.if-place-self.true) }
+    let read = c.read_record.ensures.read ∙ ap (reading i) bytes ∙ reads-back (row_at xs i) (s.within i c.if-place-self.true) [] i in
+    record { line = ap (option_map row) c.ok.ensures.value ∙ told-some c.read_record.result (row_at xs i) read ∙ sym (nth-rows_in s.used xs i c.if-place-self.true) }
 
 pub returns-else-place-self : goal.returns-else-place-self
 returns-else-place-self c =

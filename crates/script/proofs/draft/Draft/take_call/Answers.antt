@@ -11,12 +11,12 @@ returns c =
     let d = draft_of c.args.self.now in
     let command = c.args.command in
     let words = words_of c.args.line.now in
-    let ns = vec_items c.in-ok-numbers.numbers in
+    let ns = vec_items c.in_ok-numbers.numbers in
     let calls = vec_items c.args.self.now.calls in
-    let call = c.in-ok-call.call in
-    let done : complete d ≡ Ok tt = sym c.in-ok-set-up-is-done.ensures in
-    let numbers : numbers_of words ≡ Ok ns = c.in-ok-numbers.ensures in
-    let said : call_said command ns ≡ Ok (said_by call) = ap (call_said command) (sym c.deref.ensures.value) ∙ sym c.in-ok-call.ensures in
+    let call = c.in_ok-call.call in
+    let done : complete d ≡ Ok tt = sym c.in_ok-set_up_is_done.ensures in
+    let numbers : numbers_of words ≡ Ok ns = c.in_ok-numbers.ensures in
+    let said : call_said command ns ≡ Ok (said_by call) = ap (call_said command) (sym c.deref.ensures.value) ∙ sym c.in_ok-call.ensures in
     let more : map said_by (vec_items c.push.new.self) ≡ map said_by calls ++ said_by call ∷ [] =
-    ap (map said_by) c.in-ok-push.ensures.items ∙ map-append said_by calls (call ∷ []) in
+    ap (map said_by) c.in_ok-push.ensures.items ∙ map-append said_by calls (call ∷ []) in
     simp (done, numbers, said, more)
