@@ -1,10 +1,9 @@
 -- The rows of every table keep the limits.
-use Rattle.std.proofs.Common.{◌≡◌, ℕ, ◌*◌, ◌<◌, ◌≤◌, false, ltb, List, [], ◌∷◌, length, get_or, take, nat_abs, sym, ap, ◌∙◌, subst, arith}
-use Rattle.std.specs.List.{AllByRecursion as All}
+use Rattle.std.proofs.Common.{◌≡◌, ℕ, ◌<◌, ◌≤◌, false, ltb, List, length, get_or, take, nat_abs, sym, ap, ◌∙◌, arith}
 use Rattle.std.proofs.ByRecursion.{All-get_or, All-from_get_or}
 use Rattle.std.proofs.lemmas.List.{length-take-le, get_or-take}
 use Rattle.std.proofs.lemmas.Bool.{ltb-false, or_parts}
-use Rattle.charges.specs.Rows.{Good, RowWithin, RequiredWithin, UsedWithin, nobody, ehv_size, required_size}
+use Rattle.charges.specs.Rows.{Good, RowWithin, RequiredWithin, UsedWithin, nobody}
 use Rattle.charges.specs.Tables.{rows_of, outside_areas, outside_figure, outside_figures, outside_requirement, outside_use}
 use Rattle.charges.specs.declared.table.OwnerRow.{OwnerRow}
 use Rattle.charges.specs.declared.table.Table.{Table}

@@ -1,6 +1,6 @@
 -- Which of several groups of checks answers.
-use Rattle.std.specs.Prelude.{◌≡◌, ℕ, ◌<◌, ◌≤◌, Bool, true, false, cond, List, [], ◌∷◌, ◌++◌, length, Some, None, Ok, Err, Option, Result, MatchResult, refl}
-use Rattle.std.proofs.Common.{sym, ap, ◌∙◌, arith}
+use Rattle.std.specs.Prelude.{◌≡◌, ℕ, Bool, true, false, cond, List, [], ◌∷◌, ◌++◌, Some, None, Ok, Err, Option, Result, MatchResult, refl}
+use Rattle.std.proofs.Common.{arith}
 use Rattle.charges.specs.Checks.{Check, first_fault}
 
 pub first_fault-pass : {F : Type 0} (front rest : List (Check F)) → first_fault front ≡ None → first_fault (front ++ rest) ≡ first_fault rest

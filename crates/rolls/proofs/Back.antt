@@ -1,10 +1,10 @@
 -- Every line reads back from its own record.
-use Rattle.std.proofs.Common.{◌≡◌, ℕ, ◌+◌, ◌^◌, ◌<◌, ◌≤◌, true, false, cond, not, leb, List, [], ◌∷◌, ◌++◌, length, ℤ, pos, negsuc, nat_abs, Some, None, Ok, Err, Option, Result, sym, refl, ap, ◌∙◌, arith, w64, SFits, to_z, of_z}
-use Rattle.std.proofs.lemmas.Int.{to_z-of_z, ints}
+use Rattle.std.proofs.Common.{◌≡◌, ℕ, ◌^◌, ◌<◌, ◌≤◌, true, List, ◌++◌, ℤ, pos, negsuc, nat_abs, None, Ok, ap, ◌∙◌, arith, w64, SFits, to_z, of_z}
+use Rattle.std.proofs.lemmas.Int.{to_z-of_z}
 use Rattle.std.proofs.lemmas.Bool.{le-leb, and_from}
 use Rattle.rolls.specs.Rows.{Row, WithinRow}
 use Rattle.rolls.specs.Numerals.{bytes_of, number}
-use Rattle.rolls.specs.Records.{Refusal, Check, answered, first_fault, inside, held, cents_checks, field_checks, field_of, part, length_checks, month_checks, owner_checks, mark_checks, row_in, reading, encoded}
+use Rattle.rolls.specs.Records.{answered, first_fault, inside, cents_checks, part, length_checks, month_checks, owner_checks, mark_checks, row_in, reading, encoded}
 use Rattle.rolls.proofs.Numerals.{number-back}
 use Rattle.rolls.proofs.Reading.{passes_append, first-clear}
 use Rattle.rolls.proofs.Wholes.{same_row}

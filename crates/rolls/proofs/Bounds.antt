@@ -1,11 +1,11 @@
 -- How large the sums of lines can get.
-use Rattle.std.proofs.Common.{◌≡◌, ℕ, ◌+◌, ◌*◌, ◌<◌, ◌≤◌, Bool, true, false, cond, List, [], ◌∷◌, ◌++◌, length, get_or, ℤ, pos, negsuc, ◌+ℤ◌, nat_abs, sym, refl, ap, ◌∙◌, arith}
+use Rattle.std.proofs.Common.{◌≡◌, ℕ, ◌+◌, ◌*◌, ◌≤◌, Bool, true, false, cond, List, [], ◌∷◌, length, ℤ, pos, ◌+ℤ◌, nat_abs, arith}
 use Rattle.std.specs.List.{AllByRecursion as All}
 use Rattle.std.proofs.lemmas.Int.{ints}
 use Rattle.std.proofs.lemmas.List.Sums.{sum_by-cons, count_by-le-length}
 use Rattle.rolls.specs.Rows.{Row, WithinRow}
 use Rattle.rolls.specs.Summaries.{of, sum_of, count_of}
-use Rattle.rolls.specs.Tallies.{Tallied, Room, slot}
+use Rattle.rolls.specs.Tallies.{Tallied, Room}
 use Rattle.rolls.specs.declared.sums.Sums.{Sums}
 
 abbrev most : ℕ

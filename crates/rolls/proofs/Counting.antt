@@ -1,12 +1,12 @@
 -- An archive read record by record.
-use Rattle.std.proofs.Common.{◌≡◌, ℕ, zero, suc, ◌+◌, ◌-◌, ◌*◌, ◌<◌, ◌≤◌, List, [], ◌∷◌, ◌++◌, length, take, drop, ℤ, pos, ◌+ℤ◌, nat_abs, Some, None, Ok, Err, Option, Result, sym, refl, ap, ◌∙◌, subst, append_assoc, add-one, arith, length-append, length-drop}
+use Rattle.std.proofs.Common.{◌≡◌, ℕ, zero, suc, ◌+◌, ◌-◌, ◌*◌, ◌<◌, ◌≤◌, List, [], ◌∷◌, ◌++◌, length, drop, Some, None, Ok, Err, sym, refl, ap, ◌∙◌, append_assoc, add-one, arith, length-drop}
 use Rattle.std.specs.List.{AllByRecursion as All}
 use Rattle.std.proofs.ByRecursion.{All-push}
-use Rattle.std.proofs.lemmas.List.{append-nil, drop-drop, length_push, nil_from_length, drop_all}
+use Rattle.std.proofs.lemmas.List.{append-nil, drop-drop, length_push}
 use Rattle.rolls.specs.Rows.{Row, WithinRow}
 use Rattle.rolls.specs.Records.{Refusal, reading}
-use Rattle.rolls.specs.Summaries.{Contents, contents, contents_from, grown, sum_of, count_of}
-use Rattle.rolls.specs.Tallies.{Tallied, Room, slot}
+use Rattle.rolls.specs.Summaries.{Contents, contents, contents_from, grown}
+use Rattle.rolls.specs.Tallies.{Tallied}
 use Rattle.rolls.specs.declared.sums.Sums.{Sums}
 
 abbrev after : List Row → Contents → Contents

@@ -1,5 +1,5 @@
 -- A record as the code lays it out.
-use Rattle.std.proofs.Common.{◌≡◌, ℕ, ◌/◌, ◌%◌, ◌<◌, List, [], ◌∷◌, get_or, ℤ, sym, refl, ap, ◌∙◌, mod-eq_of_lt, div-one, w64, of_z}
+use Rattle.std.proofs.Common.{◌≡◌, ℕ, ◌/◌, ◌%◌, ◌<◌, List, [], ◌∷◌, get_or, ℤ, mod-eq_of_lt, div-one, w64, of_z}
 use Rattle.rolls.specs.Records.{encoded}
 
 pub laid_out : (month owner mark : ℕ) (cents : ℤ) (m k c : List ℕ)

@@ -1,7 +1,7 @@
 -- A record as a whole: what its fields' answers tell of it.
-use Rattle.std.proofs.Common.{◌≡◌, ℕ, ◌+◌, ◌-◌, ◌≤◌, List, [], ◌∷◌, ◌++◌, length, take, ℤ, Some, None, Ok, Err, Option, Result, sym, refl, ap, ◌∙◌, arith, w64, to_z, of_z}
+use Rattle.std.proofs.Common.{◌≡◌, ℕ, ◌-◌, ◌≤◌, List, [], ◌++◌, length, take, ℤ, None, Ok, Err, Result, sym, ap, ◌∙◌, arith, w64, to_z, of_z}
 use Rattle.rolls.specs.Rows.{Row}
-use Rattle.rolls.specs.Records.{Refusal, Check, answered, first_fault, held, cents_checks, field_checks, field_of, part, length_checks, month_checks, owner_checks, mark_checks, row_in, reading, encoded}
+use Rattle.rolls.specs.Records.{Refusal, answered, first_fault, held, cents_checks, field_checks, field_of, part, length_checks, month_checks, owner_checks, mark_checks, row_in, reading, encoded}
 use Rattle.rolls.proofs.Reading.{stopped, passes, passes_append, first-clear, field-clear, field-stop, field-bytes, parts_join}
 
 -- the answer of a field of bs: the number m, or the refusal e

@@ -1,5 +1,5 @@
 -- Text laid into a page, piece by piece.
-use Rattle.std.proofs.Common.{◌≡◌, ℕ, zero, suc, ◌+◌, ◌<◌, ◌≤◌, true, false, ◌⊎◌, List, [], ◌∷◌, ◌++◌, length, get_or, take, drop, set, ℤ, pos, negsuc, nat_abs, ◌<ℤ◌, Some, None, decimal, sym, refl, ap, ◌∙◌, inl, inr, append_assoc, add-one, arith, length-append}
+use Rattle.std.proofs.Common.{◌≡◌, ℕ, zero, suc, ◌+◌, ◌<◌, ◌≤◌, false, ◌⊎◌, List, [], ◌∷◌, ◌++◌, length, get_or, take, drop, set, ℤ, pos, negsuc, nat_abs, ◌<ℤ◌, Some, None, decimal, sym, refl, ap, ◌∙◌, inl, inr, append_assoc, add-one, arith, length-append}
 use Rattle.std.proofs.lemmas.List.{append-nil, take_more_set, take_more, drop-set-lt, length-set, drop-drop}
 use lib.Signed.{le_z}
 use Rattle.std.proofs.lemmas.Int.{ints}

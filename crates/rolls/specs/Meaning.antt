@@ -1,5 +1,5 @@
 -- What the code's lines and refusals mean.
-use Rattle.std.specs.Prelude.{ℕ, Ok, Err, Result}
+use Rattle.std.specs.Prelude.{Ok, Err, Result}
 use Rattle.rolls.specs.Rows.{Row, row_of}
 use Rattle.rolls.specs.Records.{Refusal}
 use Rattle.rolls.specs.declared.line.Line.{Line}

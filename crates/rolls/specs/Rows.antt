@@ -1,5 +1,5 @@
 -- What a line says: whom it bills, for which month, at which mark, and how many cents.
-use Rattle.std.specs.Prelude.{ℕ, ◌*◌, ◌^◌, ◌≤◌, List, ℤ, unsigned_abs}
+use Rattle.std.specs.Prelude.{ℕ, ◌≤◌, ℤ, unsigned_abs}
 
 pub record Row : Type 0 where
   pub month : ℕ

@@ -1,6 +1,6 @@
 use Rattle.std.proofs.Common.{◌≡◌, ℕ, ◌+◌, ◌≤◌, List, get_or, take, ◌+ℤ◌, nat_abs, sum_by, ap, ◌∙◌, arith, w64, SFits, rules}
 use Rattle.std.proofs.lemmas.List.{take_all}
-use Rattle.std.proofs.lemmas.Int.{ints, to_z-of_z}
+use Rattle.std.proofs.lemmas.Int.{ints}
 use Rattle.charges.specs.Rows.{all_ehv, nobody}
 use Rattle.charges.specs.declared.table.OwnerRow.{OwnerRow}
 use Rattle.charges.proofs.Loops.{sum_more, sum-front-size}
@@ -12,7 +12,7 @@ module _ (rows : List OwnerRow) (i : ℕ) where
   size = sum-front-size (λ (r : OwnerRow). r.ehv) (λ r. nat_abs r.ehv) (λ r. omega arith) rows i
 
 -- one more row is added
-module _ (c : goal.After-sum·1) where
+module _ (c : goal.After-sum-1) where
   abbrev row : OwnerRow
   row = get_or c.args.rows.now c.loop-row.row-index nobody
 
@@ -22,19 +22,19 @@ module _ (c : goal.After-sum·1) where
   sum_fits : SFits w64 (c.loop-row.sum +ℤ row.ehv)
   sum_fits =
       let s = size c.args.rows.now (c.loop-row.row-index + 1) in
-      omega (arith, ints, c.loop-row.invariant, c.loop-row.sum_is, more, s, c.requires.existing)
+      omega (arith, ints, c.loop-row.invariant, c.loop-row.sum-is, more, s, c.requires.existing)
 
 pub overflow_add-sum : goal.overflow_add-sum
 overflow_add-sum c =
     let fit : SFits w64 (row c).ehv = search rules in
     let f = sum_fits c in
-    omega (arith, ints, c.loop-row.sum_is)
+    omega (arith, ints, c.loop-row.sum-is)
 
 pub loop-row-preserved : goal.loop-row-preserved
 loop-row-preserved c =
     let fit : SFits w64 (row c).ehv = search rules in
     let f = sum_fits c in
-    omega (arith, ints, c.loop-row.invariant, c.loop-row.sum_is, more c)
+    omega (arith, ints, c.loop-row.invariant, c.loop-row.sum-is, more c)
 
 pub returns : goal.returns
 returns c =

@@ -1,7 +1,7 @@
-use Rattle.std.proofs.Common.{◌≡◌, ℕ, ◌+◌, ◌≤◌, cond, eqb, List, get_or, take, pos, ◌+ℤ◌, nat_abs, sum_by, sym, ap, ◌∙◌, arith, w64, SFits, rules}
+use Rattle.std.proofs.Common.{◌≡◌, ℕ, ◌+◌, ◌≤◌, eqb, List, take, pos, ◌+ℤ◌, nat_abs, sum_by, sym, ap, ◌∙◌, arith, w64, SFits}
 use Rattle.std.proofs.lemmas.List.{take_all}
 use Rattle.std.proofs.lemmas.Bool.{cond_both}
-use Rattle.std.proofs.lemmas.Int.{ints, to_z-of_z}
+use Rattle.std.proofs.lemmas.Int.{ints}
 use Rattle.charges.specs.Rows.{area_ehv, ehv_in, nobody}
 use Rattle.charges.specs.declared.table.OwnerRow.{OwnerRow}
 use Rattle.charges.proofs.Loops.{sum_more, sum-front-size}
@@ -23,19 +23,19 @@ module _ (c : goal.After-ehv_in-sum) where
   sum_fits : SFits w64 (c.loop-row.sum +ℤ c.ehv_in-sum.result)
   sum_fits =
       let s = size c.args.area c.args.rows.now (c.loop-row.row-index + 1) in
-      omega (arith, ints, c.loop-row.invariant, c.loop-row.sum_is, more, s, c.requires.existing)
+      omega (arith, ints, c.loop-row.invariant, c.loop-row.sum-is, more, s, c.requires.existing)
 
 pub overflow_add-sum : goal.overflow_add-sum
 overflow_add-sum c =
     let fit : SFits w64 c.ehv_in-sum.result = record { sfits = c.ehv_in-sum.type_inv } in
     let f = sum_fits c in
-    omega (arith, ints, c.loop-row.sum_is)
+    omega (arith, ints, c.loop-row.sum-is)
 
 pub loop-row-preserved : goal.loop-row-preserved
 loop-row-preserved c =
     let fit : SFits w64 c.ehv_in-sum.result = record { sfits = c.ehv_in-sum.type_inv } in
     let f = sum_fits c in
-    omega (arith, ints, c.loop-row.invariant, c.loop-row.sum_is, more c)
+    omega (arith, ints, c.loop-row.invariant, c.loop-row.sum-is, more c)
 
 pub returns : goal.returns
 returns c =

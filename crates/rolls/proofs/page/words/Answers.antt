@@ -1,4 +1,4 @@
-use Rattle.std.proofs.Common.{◌≡◌, take, ap, arith}
+use Rattle.std.proofs.Common.{◌≡◌, take, arith}
 use Rattle.std.proofs.lemmas.List.{length-take-le, take_all}
 use Rattle.rolls.proofs.Writing.{wrote_nothing, wrote-more}
 use Rattle.rolls.proofs.page.words.Goals as goal

@@ -1,7 +1,6 @@
-use Rattle.std.proofs.Common.{◌≡◌, arith, w64, SFits, to_z, of_z, rules}
+use Rattle.std.proofs.Common.{◌≡◌, w64, SFits, to_z, of_z, rules}
 use Rattle.std.proofs.lemmas.Int.{to_z-of_z}
 use Rattle.std.proofs.lemmas.Result.{err_from_is_err_and}
-use Rattle.rolls.specs.Meaning.{refusal}
 use Rattle.rolls.proofs.Wholes.{month-stops, owner-stops, mark-stops, cents-stops, all-granted, all-bytes-are-its-own}
 use Rattle.rolls.proofs.record.read_record.Goals as goal
 

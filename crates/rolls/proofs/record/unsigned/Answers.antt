@@ -1,6 +1,6 @@
-use Rattle.std.proofs.Common.{◌≡◌, take, sym, ap, ◌∙◌, arith}
+use Rattle.std.proofs.Common.{◌≡◌, take, ap, ◌∙◌, arith}
 use Rattle.std.proofs.lemmas.List.{take_all}
-use Rattle.rolls.specs.Numerals.{number, bytes_of}
+use Rattle.rolls.specs.Numerals.{number}
 use Rattle.rolls.proofs.Numerals.{number_more, number-take-below, bytes_of-number, all-bytes}
 use Rattle.rolls.proofs.record.unsigned.Goals as goal
 

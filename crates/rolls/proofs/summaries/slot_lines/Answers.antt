@@ -1,5 +1,4 @@
-use Rattle.std.proofs.Common.{◌≡◌, sym, ap, arith}
-use Rattle.rolls.specs.Summaries.{up_to}
+use Rattle.std.proofs.Common.{◌≡◌, arith}
 use Rattle.rolls.specs.Tallies.{slot_line}
 use Rattle.rolls.proofs.Writing.{wrote_nothing, wrote_then, up_to-none, up_to-more, up_to-room}
 use Rattle.rolls.proofs.summaries.slot_lines.Goals as goal

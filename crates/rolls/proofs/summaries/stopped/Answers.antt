@@ -1,4 +1,4 @@
-use Rattle.std.proofs.Common.{◌≡◌, length, decimal, ap, ◌∙◌, arith}
+use Rattle.std.proofs.Common.{length, decimal, ap, ◌∙◌, arith}
 use Rattle.rolls.specs.Meaning.{refusal}
 use Rattle.rolls.proofs.Writing.{wrote_then, length-stopped}
 use Rattle.rolls.proofs.summaries.stopped.Goals as goal

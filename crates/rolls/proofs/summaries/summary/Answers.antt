@@ -1,4 +1,4 @@
-use Rattle.std.proofs.Common.{◌≡◌, ◌^◌, ◌<◌, List, ◌++◌, length, drop, Some, None, codes, sym, refl, ap, ◌∙◌, arith, rules}
+use Rattle.std.proofs.Common.{◌≡◌, ◌^◌, ◌<◌, ◌++◌, length, Some, None, codes, refl, ap, ◌∙◌, arith, rules}
 use Rattle.rolls.specs.Meaning.{refusal}
 use Rattle.rolls.specs.Summaries.{contents, pair_lines, closing, summary_text}
 use Rattle.rolls.specs.Tallies.{all_lines}

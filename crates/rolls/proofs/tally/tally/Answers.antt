@@ -1,9 +1,8 @@
-use Rattle.std.proofs.Common.{◌≡◌, ◌+◌, ◌-◌, ◌*◌, ◌≤◌, List, length, take, drop, Some, None, Ok, Err, sym, refl, ap, ◌∙◌, arith, length-drop, length-take}
+use Rattle.std.proofs.Common.{◌≡◌, ◌-◌, ◌*◌, ◌≤◌, length, take, drop, sym, refl, ap, arith, length-take}
 use Rattle.std.proofs.lemmas.List.{take_rest}
 use Rattle.std.proofs.lemmas.Result.{err_from_is_err_and}
 use Rattle.rolls.specs.Meaning.{row, refusal}
-use Rattle.rolls.specs.Records.{reading, encoded}
-use Rattle.rolls.specs.Summaries.{contents}
+use Rattle.rolls.specs.Records.{encoded}
 use Rattle.rolls.proofs.Bounds.{room-left}
 use Rattle.rolls.proofs.Counting.{counted-more, stopped-at, ended_at}
 use Rattle.rolls.proofs.tally.tally.Goals as goal

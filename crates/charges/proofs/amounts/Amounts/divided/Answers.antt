@@ -14,7 +14,7 @@ invariant_of-result c =
     let n = c.args.self.now.count in
     let out = c.divide.new.out in
     let long : length out ≡ n = search rules in
-    (c.args.self.now.few, (omega (arith, length-append out (post_of 0 (n - 0) (replicate 16 (pos 0)))), tt))
+    record { few = c.args.self.now.few; fits = omega (arith, length-append out (post_of 0 (n - 0) (replicate 16 (pos 0)))) }
 
 pub returns : goal.returns
 returns c =

@@ -1,6 +1,6 @@
-use Rattle.std.proofs.Common.{◌≡◌, ℕ, ◌<◌, ◌≤◌, get_or, pos, ◌+ℤ◌, nat_abs, ◌∙◌, arith, w64, SFits, rules}
+use Rattle.std.proofs.Common.{ℕ, ◌<◌, ◌≤◌, get_or, pos, ◌+ℤ◌, nat_abs, arith, w64, SFits}
 use Rattle.std.proofs.lemmas.List.{length-set, get_or-take}
-use Rattle.std.proofs.lemmas.Int.{ints, to_z-of_z}
+use Rattle.std.proofs.lemmas.Int.{ints}
 use Rattle.charges.specs.declared.amounts.Amounts.{Amounts}
 use Rattle.charges.specs.Amounts.{amounts_of, AllBelow}
 use Rattle.charges.specs.Parts.{sum-written, sums-written}

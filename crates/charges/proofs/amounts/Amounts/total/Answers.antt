@@ -11,7 +11,7 @@ overflow_add-sum c =
     let a = c.args.self.now in
     let p = amount-below a 1000000000000000 c.loop-i.i c.loop-i-test.true c.requires in
     let q = c.loop-i.invariant.1 in
-    omega (arith, ints, c.loop-i.sum_is, a.few, c.loop-i-test.true)
+    omega (arith, ints, c.loop-i.sum-is, a.few, c.loop-i-test.true)
 
 pub loop-i-preserved : goal.loop-i-preserved
 loop-i-preserved c =
@@ -24,7 +24,7 @@ loop-i-preserved c =
     let fit : SFits w64 (c.loop-i.sum +ℤ x) = omega (arith, ints, a.few, c.loop-i-test.true) in
     let s = sum_step (amounts_of a) i (omega (arith, amounts-long a, c.loop-i-test.true)) in
     let at = amount-at a i c.loop-i-test.true in
-    (omega (arith, ints, c.loop-i.sum_is, c.loop-i.invariant.0), omega (arith, ints, c.loop-i.sum_is))
+    (omega (arith, ints, c.loop-i.sum-is, c.loop-i.invariant.0), omega (arith, ints, c.loop-i.sum-is))
 
 pub returns : goal.returns
 returns c =

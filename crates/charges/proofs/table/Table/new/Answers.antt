@@ -14,19 +14,13 @@ invariant_of-result c =
     let long : length kept ≡ 16 = search rules in
     let s = c.sizes-ehv.ensures in
     let ehv = ap ehv_size same in
-    let nhv = ap nhv_size same in (
-      some,
-      (
-        c.if-rows-gt16.false,
-        (
-          omega arith,
-          (
-            (λ i h. subst RequiredWithin (kept_at rows kept same i h) (row-required rows figures i h areas)),
-            (
-              (λ i h. subst UsedWithin (kept_at rows kept same i h) (row-used rows figures i h)),
-              (omega (arith, ehv, s.ehv), (omega (arith, ehv, nhv, s.ehv, s.nhv), tt)),
-            ),
-          ),
-        ),
-      ),
-    )
+    let nhv = ap nhv_size same in
+    record {
+      some = some;
+      few = c.if-rows-gt16.false;
+      fits = omega arith;
+      required_within = λ i h. subst RequiredWithin (kept_at rows kept same i h) (row-required rows figures i h areas);
+      used_within = λ i h. subst UsedWithin (kept_at rows kept same i h) (row-used rows figures i h);
+      existing = omega (arith, ehv, s.ehv);
+      required = omega (arith, ehv, nhv, s.ehv, s.nhv);
+    }

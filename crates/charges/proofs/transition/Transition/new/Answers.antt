@@ -32,7 +32,7 @@ returns-then-some_cap_outside g c =
 pub invariant_of-result : goal.invariant_of-result
 invariant_of-result g c =
     let long : length c.args.caps ≡ 16 = search rules in
-    (long, (caps-within c.args.caps (sym c.some_cap_outside.ensures ∙ c.if-some_cap_outside.false), tt))
+    record { long = long; within = caps-within c.args.caps (sym c.some_cap_outside.ensures ∙ c.if-some_cap_outside.false) }
 
 pub returns : goal.returns
 returns g c =

@@ -1,8 +1,7 @@
-use Rattle.std.proofs.Common.{◌≡◌, [], ◌∷◌, ℤ, pos, ◌+ℤ◌, ◌-ℤ◌, refl, ap, ◌∙◌, arith, w64}
+use Rattle.std.proofs.Common.{◌≡◌, ℤ, pos, ◌+ℤ◌, ◌-ℤ◌, refl, ap, ◌∙◌, arith, w64}
 use Rattle.std.proofs.lemmas.Int.{to_z-of_z}
 use Rattle.charges.specs.Pools.{pool_of}
-use Rattle.charges.specs.Rows.{all_nhv}
-use Rattle.charges.specs.Volumetric.{area_pool, grid_pool, volumetric_pools}
+use Rattle.charges.specs.Volumetric.{grid_pool}
 use Rattle.charges.specs.declared.pool.Basis.TheVariants.{AreaLoad, GridLoad}
 use Rattle.charges.proofs.Portions.{rest-fits, grid-fits, grid-is, grid-small}
 use Rattle.charges.proofs.volumetric.Volumetric.pools.Goals as goal

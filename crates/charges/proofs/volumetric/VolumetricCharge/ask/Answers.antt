@@ -8,5 +8,5 @@ returns c = record {
   meant =
       c.charge_by.ensures
       ∙ ap (λ pools. charged pools c.rows-rows.result.now) c.pools-pools.ensures.pools
-      ∙ ap (volumetric c.args.self.now.tenths c.args.-month) c.rows-rows.ensures.rows;
+      ∙ ap (volumetric c.args.self.now.tenths c.args._month) c.rows-rows.ensures.rows;
 }

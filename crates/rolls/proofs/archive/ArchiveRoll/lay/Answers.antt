@@ -1,6 +1,6 @@
-use Rattle.std.proofs.Common.{◌≡◌, ◌+◌, ◌*◌, ◌<◌, ◌≤◌, length, get_or, take, set, sym, refl, ap, ◌∙◌, arith}
+use Rattle.std.proofs.Common.{◌≡◌, ◌+◌, ◌*◌, length, get_or, take, set, refl, ap, ◌∙◌, arith}
 use lib.Seq.{paste}
-use Rattle.std.proofs.lemmas.List.Edits.{paste_none, paste_more, length-paste}
+use Rattle.std.proofs.lemmas.List.Edits.{paste_none, paste_more}
 use Rattle.std.proofs.lemmas.List.{length-set, take-set-le}
 use Rattle.rolls.proofs.Recorded.{kept-lines, kept-within}
 use Rattle.rolls.proofs.archive.ArchiveRoll.lay.Goals as goal
@@ -10,16 +10,13 @@ invariant_of-self c =
     let s = c.loop-i.self in
     let at = c.args.self.now.used * 27 + c.loop-i.i in
     let b = get_or c.encode-record.result c.loop-i.i 0 in
-    let same : take (s.used * 27) (set s.bytes.now at b) ≡ take (s.used * 27) s.bytes.now = take-set-le (s.used * 27) s.bytes.now at b (omega (arith, c.loop-i.invariant.0)) in (
-      simp length-set s.fits,
-      (
-        s.few,
-        (
-          kept-lines s.used s.bytes.now (set s.bytes.now at b) s.lines s.within same,
-          (kept-within s.used s.bytes.now (set s.bytes.now at b) s.lines s.within same, tt),
-        ),
-      ),
-    )
+    let same : take (s.used * 27) (set s.bytes.now at b) ≡ take (s.used * 27) s.bytes.now = take-set-le (s.used * 27) s.bytes.now at b (omega (arith, c.loop-i.invariant.0)) in
+    record {
+      fits = simp length-set s.fits;
+      few = s.few;
+      lines = kept-lines s.used s.bytes.now (set s.bytes.now at b) s.lines s.within same;
+      within = kept-within s.used s.bytes.now (set s.bytes.now at b) s.lines s.within same;
+    }
 
 pub loop-i-init : goal.loop-i-init
 loop-i-init c = (refl, paste_none c.args.self.now.bytes.now (c.args.self.now.used * 27) c.encode-record.result)

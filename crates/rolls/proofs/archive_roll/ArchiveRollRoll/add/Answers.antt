@@ -1,10 +1,6 @@
-use Rattle.std.proofs.Common.{◌≡◌, suc, ◌+◌, ◌-◌, ◌*◌, ◌/◌, ◌<◌, ◌≤◌, min, List, [], ◌∷◌, ◌++◌, length, drop, sym, refl, ap, ◌∙◌, arith}
-use lib.Seq.{paste}
-use Rattle.std.proofs.lemmas.List.Edits.{length-paste}
-use Rattle.rolls.specs.Archives.{archived, rows_in, AllWithin}
+use Rattle.std.proofs.Common.{sym, refl, ◌∙◌, arith}
 use Rattle.rolls.specs.Meaning.{row}
-use Rattle.rolls.specs.Records.{encoded}
-use Rattle.rolls.proofs.Recorded.{Laid, laid-behind, none-untouched}
+use Rattle.rolls.proofs.Recorded.{laid-behind, none-untouched}
 use Rattle.rolls.proofs.archive_roll.ArchiveRollRoll.add.Goals as goal
 
 pub returns-then-free-eq0 : goal.returns-then-free-eq0
@@ -19,7 +15,7 @@ pub invariant_of-self : goal.invariant_of-self
 invariant_of-self c =
     let s = c.args.self.now in
     let l = laid-behind s.used s.bytes.now (row c.args.line) c.lay.new.self.used c.lay.new.self.bytes.now s.lines s.within c.args.line.within (omega arith) c.lay.ensures.used c.lay.ensures.bytes in
-    (l.fits, (omega (arith, c.lay.ensures.used), (l.lines, (l.within, tt))))
+    record { fits = l.fits; few = omega (arith, c.lay.ensures.used); lines = l.lines; within = l.within }
 
 pub returns : goal.returns
 returns c =

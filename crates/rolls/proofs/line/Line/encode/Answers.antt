@@ -11,5 +11,5 @@ returns c =
     let m = simp to_z-of_z at c.to_be_bytes-cents.ensures in
     record {
       bytes = laid_out c.args.self.now.month c.args.self.now.owner c.args.self.now.mark c.args.self.now.cents _ _ _ (omega arith) c.to_be_bytes-month.ensures (rw c.from.ensures at c.to_be_bytes-mark.ensures) m;
-      reads-back = λ place rest. reads-back (row c.args.self.now) c.args.self.now.within rest place;
+      reads_back = λ place rest. reads-back (row c.args.self.now) c.args.self.now.within rest place;
     }

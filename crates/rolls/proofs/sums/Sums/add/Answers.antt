@@ -1,7 +1,5 @@
-use Rattle.std.proofs.Common.{◌≡◌, ◌+◌, ◌*◌, ◌≤◌, length, get_or, pos, ◌+ℤ◌, nat_abs, sym, refl, ap, ◌∙◌, arith, w64, SFits, rules}
-use Rattle.std.proofs.lemmas.Int.{ints}
+use Rattle.std.proofs.Common.{◌≡◌, ◌+◌, ◌*◌, length, get_or, pos, ◌+ℤ◌, w64, SFits, rules}
 use Rattle.rolls.specs.Meaning.{row}
-use Rattle.rolls.specs.Tallies.{slot}
 use Rattle.rolls.proofs.Adding.{tallied-more, sum_back}
 use Rattle.rolls.proofs.sums.Sums.add.Goals as goal
 

@@ -1,4 +1,4 @@
-use Rattle.std.proofs.Common.{sym, arith}
+use Rattle.std.proofs.Common.{sym}
 use Rattle.rolls.specs.Meaning.{row}
 use Rattle.rolls.proofs.Places.{nth-front, nth-past-front}
 use Rattle.rolls.proofs.table_roll.TableRollRoll.line.Goals as goal
