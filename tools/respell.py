@@ -43,10 +43,10 @@ def main():
             if kind:
                 is_inside = True
                 continue
-            if indent and not is_inside:
+            if indent and not is_inside and not mark:
                 continue
-            is_lemma = not indent and mark in ("", "pub")
-            if path.endswith(("Answers.antt", "Invariants.antt", "Proof.antt")) and not indent and mark:
+            is_lemma = (not indent or not is_inside) and mark in ("", "pub")
+            if "/proofs/" in path and path.endswith(("/Answers.antt", "/Invariants.antt", "/Proof.antt")) and not indent and mark:
                 continue
             new = respelled(name, is_lemma)
             if name in names and names[name] != new:
@@ -62,7 +62,8 @@ def main():
         if used[new]:
             print(f"falls together: {old} and {new}", file=sys.stderr)
     for path, text in texts.items():
-        new = TOKEN.sub(lambda m: changed.get(m.group(0), m.group(0)), text)
+        # `.sum-is` and its like are the check's own names of steps
+        new = TOKEN.sub(lambda m: m.group(0) if text[:m.start()].endswith(".") and m.group(0).endswith("-is") else changed.get(m.group(0), m.group(0)), text)
         if new != text:
             open(path, "w", encoding="utf-8").write(new)
     print(f"{len(changed)} names respelled")

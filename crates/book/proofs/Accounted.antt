@@ -9,7 +9,7 @@ use Rattle.division.proofs.Totals.{int_sum-cons}
 use Rattle.rolls.specs.Rows.{Row}
 use Rattle.rolls.specs.Summaries.{sum_of}
 use Rattle.charges.specs.Checks.{first_fault}
-use Rattle.book.specs.Answers.{netsAnswer, granting}
+use Rattle.book.specs.Answers.{nets_answer, granting}
 use Rattle.book.specs.Entries.{Noted, latest, or_else}
 use Rattle.book.specs.Histories.{Event, Terms, event_of, posts, posted, if_granted, entry_of, posting_of, answer_to, entries_by, postings_by, mark_for, mark_by, owners, afresh, free_by}
 use Rattle.book.specs.Laws.{Balanced, Settled, OnePosting, Rolled, Law, Accounts, in_order}
@@ -26,7 +26,7 @@ record Billed (workedAt : ℕ → Working) (count journal n : ℕ) (mark : Optio
   within : n ≤ journal
   new : List ℤ
   old : List ℤ
-  new_is : netsAnswer (workedAt n) ≡ Ok new
+  new_is : nets_answer (workedAt n) ≡ Ok new
   old_is : nets_before workedAt count mark ≡ Ok old
   cents_are : cents ≡ less new old
 
@@ -38,7 +38,7 @@ no-check journal n mark month entries = by (ltb journal n) refl
     by false e none = ltb-false journal n e
 
 billed-from : (workedAt : ℕ → Working) (count journal n : ℕ) (mark : Option ℕ) (cents : List ℤ) (fault : Option Refusal) (new old : Result (List ℤ) Refusal) (short : Bool) → (fault ≡ None → n ≤ journal)
-    → netsAnswer (workedAt n) ≡ new → nets_before workedAt count mark ≡ old → ◌≡◌ {A = Result (List ℤ) Refusal} (cents_of fault new old short) (Ok cents) → Billed workedAt count journal n mark cents
+    → nets_answer (workedAt n) ≡ new → nets_before workedAt count mark ≡ old → ◌≡◌ {A = Result (List ℤ) Refusal} (cents_of fault new old short) (Ok cents) → Billed workedAt count journal n mark cents
 billed-from workedAt count journal n mark cents (Some f) new old short low p q e = let z : ◌≡◌ {A = ℕ} 0 1 = cc in absurd (omega arith)
 billed-from workedAt count journal n mark cents None (Err f) old short low p q e = let z : ◌≡◌ {A = ℕ} 0 1 = cc in absurd (omega arith)
 billed-from workedAt count journal n mark cents None (Ok new) (Err f) short low p q e = let z : ◌≡◌ {A = ℕ} 0 1 = cc in absurd (omega arith)
@@ -51,7 +51,7 @@ record Known (w : Working) (nets : List ℤ) : Type 0 where
   is : w ≡ worked figures
   nets_are : figures.nets ≡ nets
 
-known : (w : Working) (nets : List ℤ) → ◌≡◌ {A = Result (List ℤ) Refusal} (netsAnswer w) (Ok nets) → Known w nets
+known : (w : Working) (nets : List ℤ) → ◌≡◌ {A = Result (List ℤ) Refusal} (nets_answer w) (Ok nets) → Known w nets
 known (denied f) nets e = let z : ◌≡◌ {A = ℕ} 0 1 = cc in absurd (omega arith)
 known (worked v) nets e = let same : v.nets ≡ nets = cc in record { figures = v; is = refl; nets_are = same }
 
@@ -117,11 +117,11 @@ module _ (t : Terms) (h : List Event) (marks : List (Option ℕ)) (entries : Lis
     abbrev next : List Event
     next = h ++ e ∷ []
 
-    abbrev new-rows : List Row
-    new-rows = lines_from month n 0 cents
+    abbrev new_rows : List Row
+    new_rows = lines_from month n 0 cents
 
     billed : Billed (afresh t (entries_by h) month) (owners t) (length (entries_by h)) n (mark_by month h) cents
-    billed = billed-from (afresh t (entries_by h) month) (owners t) (length (entries_by h)) n (mark_by month h) cents (first_fault (post_checks (length (entries_by h)) n month (mark_by month h) (entries_by h))) (netsAnswer (afresh t (entries_by h) month n)) (nets_before (afresh t (entries_by h) month) (owners t) (mark_by month h)) (ltb (free_by t h) (owners t)) (no-check (length (entries_by h)) n (mark_by month h) month (entries_by h)) refl refl granted
+    billed = billed-from (afresh t (entries_by h) month) (owners t) (length (entries_by h)) n (mark_by month h) cents (first_fault (post_checks (length (entries_by h)) n month (mark_by month h) (entries_by h))) (nets_answer (afresh t (entries_by h) month n)) (nets_before (afresh t (entries_by h) month) (owners t) (mark_by month h)) (ltb (free_by t h) (owners t)) (no-check (length (entries_by h)) n (mark_by month h) month (entries_by h)) refl refl granted
 
     at_n : Known (afresh t (entries_by h) month n) billed.new
     at_n = known (afresh t (entries_by h) month n) billed.new billed.new_is
@@ -159,16 +159,16 @@ module _ (t : Terms) (h : List Event) (marks : List (Option ℕ)) (entries : Lis
     cents_many : length cents ≡ owners t
     cents_many = ap length billed.cents_are ∙ length-less billed.new billed.old as_many ∙ new_many
 
-    sums_after : (owner : ℕ) → sum_of month owner (rows ++ new-rows) ≡ get_or at_n.figures.nets owner (pos 0)
+    sums_after : (owner : ℕ) → sum_of month owner (rows ++ new_rows) ≡ get_or at_n.figures.nets owner (pos 0)
     sums_after owner =
-        let all = sum-append month owner rows new-rows in
+        let all = sum-append month owner rows new_rows in
         let was = before.sums owner in
         let adds = sum-here month owner n 0 owner cents (omega arith) ∙ ap (λ xs. get_or xs owner (pos 0)) billed.cents_are ∙ get_or-less billed.new billed.old owner as_many in
         let is = ap (λ xs. get_or xs owner (pos 0)) at_n.nets_are in
         omega (arith, ints, all, was, adds, is)
 
-    sums_elsewhere : (m owner : ℕ) → (month ≡ m → ⊥) → sum_of m owner (rows ++ new-rows) ≡ sum_of m owner rows
-    sums_elsewhere m owner other = omega (arith, ints, sum-append m owner rows new-rows, sum-elsewhere m owner month n 0 cents other)
+    sums_elsewhere : (m owner : ℕ) → (month ≡ m → ⊥) → sum_of m owner (rows ++ new_rows) ≡ sum_of m owner rows
+    sums_elsewhere m owner other = omega (arith, ints, sum-append m owner rows new_rows, sum-elsewhere m owner month n 0 cents other)
 
     entries_next : entries_by next ≡ entries_by h
     entries_next = gathered-more entry_of h e ∙ append-nil (entries_by h)
@@ -185,16 +185,16 @@ module _ (t : Terms) (h : List Event) (marks : List (Option ℕ)) (entries : Lis
     mark_elsewhere : (m : ℕ) → (month ≡ m → ⊥) → mark_by m next ≡ mark_by m h
     mark_elsewhere m other = mark_next m ∙ ap (λ b. or_else (cond b (Some n) None) (mark_by m h)) (ne_eqb month m other)
 
-    settled_here : Settled t (entries_by next) (rows ++ new-rows) month n
+    settled_here : Settled t (entries_by next) (rows ++ new_rows) month n
     settled_here = record { figures = at_n.figures; worked_afresh = ap (λ xs. afresh t xs month n) entries_next ∙ at_n.is; lines_add_up_to_the_net = sums_after; balanced = fresh }
 
-    settled_next : (m mark : ℕ) → mark_by m next ≡ Some mark → Settled t (entries_by next) (rows ++ new-rows) m mark
+    settled_next : (m mark : ℕ) → mark_by m next ≡ Some mark → Settled t (entries_by next) (rows ++ new_rows) m mark
     settled_next m mark is = by (cases_eq month m)
       where
-        by : (month ≡ m) ⊎ (month ≡ m → ⊥) → Settled t (entries_by next) (rows ++ new-rows) m mark
+        by : (month ≡ m) ⊎ (month ≡ m → ⊥) → Settled t (entries_by next) (rows ++ new_rows) m mark
         by (inl same) =
             let at : n ≡ mark = let k = sym mark_here ∙ ap (λ x. mark_by x next) same ∙ is in cc in
-            subst (λ x. Settled t (entries_by next) (rows ++ new-rows) x mark) same (subst (Settled t (entries_by next) (rows ++ new-rows) month) at settled_here)
+            subst (λ x. Settled t (entries_by next) (rows ++ new_rows) x mark) same (subst (Settled t (entries_by next) (rows ++ new_rows) month) at settled_here)
         by (inr other) =
             let s = a.law.lines_add_up_to_the_net m mark (sym (mark_elsewhere m other) ∙ is) in
             record { figures = s.figures; worked_afresh = ap (λ xs. afresh t xs m mark) entries_next ∙ s.worked_afresh; lines_add_up_to_the_net = λ owner. sums_elsewhere m owner other ∙ s.lines_add_up_to_the_net owner; balanced = s.balanced }
@@ -208,24 +208,24 @@ module _ (t : Terms) (h : List Event) (marks : List (Option ℕ)) (entries : Lis
             omega (arith, at, billed.within, ap length entries_next)
         by (inr other) = omega (arith, a.marks-below m mark (sym (mark_elsewhere m other) ∙ is), ap length entries_next)
 
-    nothing_next : (m owner : ℕ) → mark_by m next ≡ None → sum_of m owner (rows ++ new-rows) ≡ pos 0
+    nothing_next : (m owner : ℕ) → mark_by m next ≡ None → sum_of m owner (rows ++ new_rows) ≡ pos 0
     nothing_next m owner is = by (cases_eq month m)
       where
-        by : (month ≡ m) ⊎ (month ≡ m → ⊥) → sum_of m owner (rows ++ new-rows) ≡ pos 0
+        by : (month ≡ m) ⊎ (month ≡ m → ⊥) → sum_of m owner (rows ++ new_rows) ≡ pos 0
         by (inl same) = let k = sym mark_here ∙ ap (λ x. mark_by x next) same ∙ is in let z : ◌≡◌ {A = ℕ} 0 1 = cc in absurd (omega arith)
         by (inr other) = sums_elsewhere m owner other ∙ a.unsettled-nothing m owner (sym (mark_elsewhere m other) ∙ is)
 
-    one : OnePosting (owners t) month n new-rows
+    one : OnePosting (owners t) month n new_rows
     one =
         record {
           one_line_an_owner = lines-in-order month n 0 cents ∙ ap (in_order month n 0) cents_many;
           lines_cancel = ap int_sum (lines-cents month n 0 cents) ∙ ap int_sum billed.cents_are ∙ sum_less billed.new billed.old as_many ∙ (omega (arith, ints, new_cancel, before.cancel));
         }
 
-    pub posted_on : (after : List (Option ℕ)) (left : ℕ) → ((m : ℕ) → get_or after m None ≡ cond (eqb m month) (Some n) (get_or marks m None)) → free ≡ left + length new-rows
-        → Accounts t next after entries room (rows ++ new-rows) left
+    pub posted_on : (after : List (Option ℕ)) (left : ℕ) → ((m : ℕ) → get_or after m None ≡ cond (eqb m month) (Some n) (get_or marks m None)) → free ≡ left + length new_rows
+        → Accounts t next after entries room (rows ++ new_rows) left
     posted_on after left set uses =
-        let long : length new-rows ≡ owners t = lines_long month n 0 cents ∙ cents_many in
+        let long : length new_rows ≡ owners t = lines_long month n 0 cents ∙ cents_many in
         let more : length (postings_by next) ≡ length (postings_by h) + 1 = ap length postings_next ∙ length-append (postings_by h) ((month, n) ∷ []) in
         let times : length (postings_by next) * owners t ≡ length (postings_by h) * owners t + owners t = ap (λ k. k * owners t) more ∙ (omega arith) in
         record {
@@ -233,14 +233,14 @@ module _ (t : Terms) (h : List Event) (marks : List (Option ℕ)) (entries : Lis
             journal_holds_the_entries = a.law.journal_holds_the_entries ∙ sym entries_next;
             answers_are_the_checks = answered-more t [] h e a.law.answers_are_the_checks (sym (ap (granting (λ xs. posted)) granted));
             lines_add_up_to_the_net = settled_next;
-            each_posting_adds_one_line_an_owner = subst (λ ps. Rolled (owners t) ps (rows ++ new-rows)) (sym postings_next) (rolled-more (owners t) (postings_by h) rows month n new-rows a.law.each_posting_adds_one_line_an_owner a.rows_are one long);
+            each_posting_adds_one_line_an_owner = subst (λ ps. Rolled (owners t) ps (rows ++ new_rows)) (sym postings_next) (rolled-more (owners t) (postings_by h) rows month n new_rows a.law.each_posting_adds_one_line_an_owner a.rows_are one long);
           };
           marks-are = λ m. marks_next m (cases_eq month m);
           marks-below = below_next;
           entries-few = omega (arith, ap length entries_next, a.entries-few);
           room-is = a.room-is;
           free-are = omega (arith, times, uses, long, a.free-are);
-          rows_are = omega (arith, times, long, a.rows_are, length-append rows new-rows);
+          rows_are = omega (arith, times, long, a.rows_are, length-append rows new_rows);
           unsettled-nothing = nothing_next;
         }
       where

@@ -9,7 +9,7 @@ use Rattle.charges.specs.Outcomes.{Outcome}
 use Rattle.charges.specs.declared.table.OwnerRow.{OwnerRow}
 use Rattle.rolls.specs.Rows.{Row}
 use Rattle.book.specs.Accounts.{Account}
-use Rattle.book.specs.Answers.{told, faultOf, granting}
+use Rattle.book.specs.Answers.{told, fault_of, granting}
 use Rattle.book.specs.Books.{areas_of, mark_of, Marked}
 use Rattle.book.specs.Calls.{count_of, entries_in, open_checks, worked_after, opening_of, opened, drafted}
 use Rattle.book.specs.Checks.{answered, verdict, full, filing_checks, reading_checks, outside_filing}
@@ -109,11 +109,11 @@ module _ {C : Type 0} (meaning : ℕ → List OwnerRow → Outcome) (t : Terms) 
       kept _ j refl (grown t h book.marks (entries_of j) (vec_capacity j) rows free a.accounts e is [] no-entry no-posting (entries_of j) (sym (append-nil (entries_of j))) (omega (arith, j.ok.0, length-map (vec_items j) noted, few)))
 
   -- the checks and the working out as the history tells them
-  abbrev told-working : ℕ → ℕ → Working
-  told-working month places = worked_after (first_fault (open_checks (owners t) places month (mark_by month h) (entries_by h))) (worked_out t.meaning t.areas month (entries_by h))
+  abbrev told_working : ℕ → ℕ → Working
+  told_working month places = worked_after (first_fault (open_checks (owners t) places month (mark_by month h) (entries_by h))) (worked_out t.meaning t.areas month (entries_by h))
 
   same-working : (month places : ℕ) → worked_after (first_fault (open_checks (length (areas_of book)) places month (mark_of book month) (entries_in j))) (worked_out meaning (areas_of book) month (entries_in j))
-      ≡ told-working month places
+      ≡ told_working month places
   same-working month places =
       ap (λ m. worked_after (first_fault (open_checks (length (areas_of book)) places month m (entries_in j))) (worked_out meaning (areas_of book) month (entries_in j))) (mark-is month)
       ∙ ap (λ xs. worked_after (first_fault (open_checks (length (areas_of book)) places month (mark_by month h) xs)) (worked_out meaning (areas_of book) month xs)) entries-in
@@ -124,7 +124,7 @@ module _ {C : Type 0} (meaning : ℕ → List OwnerRow → Outcome) (t : Terms) 
       → told opening_of r ≡ opened month (count_of j) (worked_after (first_fault (open_checks (length (areas_of book)) (length draft) month (mark_of book month) (entries_in j))) (worked_out meaning (areas_of book) month (entries_in j)))
       → draft' ≡ drafted (worked_after (first_fault (open_checks (length (areas_of book)) (length draft) month (mark_of book month) (entries_in j))) (worked_out meaning (areas_of book) month (entries_in j))) draft
       → Account meaning t (h ++ event_of (opens month draft) (told (λ o. drew o.month o.count draft') r) ∷ []) book j rows free
-  opens-on month draft draft' r is draft-is = quiet _ (drawn-by (told-working month (length draft)) r (is ∙ ap (λ w. opened month (count_of j) w) (same-working month (length draft)) ∙ ap (λ n. opened month n (told-working month (length draft))) count-is) (draft-is ∙ ap (λ w. drafted w draft) (same-working month (length draft)))) (nothing _) (nothing _)
+  opens-on month draft draft' r is draft-is = quiet _ (drawn-by (told_working month (length draft)) r (is ∙ ap (λ w. opened month (count_of j) w) (same-working month (length draft)) ∙ ap (λ n. opened month n (told_working month (length draft))) count-is) (draft-is ∙ ap (λ w. drafted w draft) (same-working month (length draft)))) (nothing _) (nothing _)
     where
       drawn-by : (w : Working) (r : Result Opening BookFault) → told opening_of r ≡ opened month (length (entries_by h)) w → draft' ≡ drafted w draft → told (λ o. drew o.month o.count draft') r ≡ draws month (length (entries_by h)) draft w
       drawn-by (denied f) (Ok o) e d = let z : ◌≡◌ {A = ℕ} 0 1 = cc in absurd (omega arith)
@@ -176,12 +176,12 @@ module _ {C : Type 0} (meaning meaning' : ℕ → List OwnerRow → Outcome) (t 
   p = posting_in meaning book j month n free
 
   pub posts-on : (all all' earlier before after : List Row) → all ≡ earlier ++ before → all' ≡ earlier ++ after → meaning' ≡ meaning
-      → faultOf (told (λ x. x) r) ≡ faultOf p → all' ≡ all ++ lines_of month n p → free ≡ free' + length (lines_of month n p) → Marked month (mark_after n (mark_of book month) p) book book'
+      → fault_of (told (λ x. x) r) ≡ fault_of p → all' ≡ all ++ lines_of month n p → free ≡ free' + length (lines_of month n p) → Marked month (mark_after n (mark_of book month) p) book book'
       → IfOk r (λ _. (w : Figures) → worked_out meaning (areas_of book) month (take n (entries_in j)) ≡ worked w → Balanced (length (areas_of book)) w)
       → Account meaning t h book j before free → Account meaning' t (h ++ event_of (posts month n) (told (λ _. posted) r) ∷ []) book' j after free'
   posts-on all all' earlier before after is is' means answer adds uses marked balance a = by p refl r answer adds uses marked balance
     where
-      by : (q : Result (List ℤ) Refusal) → p ≡ q → (r : Result (Unit {0}) BookFault) → faultOf (told (λ x. x) r) ≡ faultOf q → all' ≡ all ++ lines_of month n q → free ≡ free' + length (lines_of month n q) → Marked month (mark_after n (mark_of book month) q) book book'
+      by : (q : Result (List ℤ) Refusal) → p ≡ q → (r : Result (Unit {0}) BookFault) → fault_of (told (λ x. x) r) ≡ fault_of q → all' ≡ all ++ lines_of month n q → free ≡ free' + length (lines_of month n q) → Marked month (mark_after n (mark_of book month) q) book book'
           → IfOk r (λ _. (w : Figures) → worked_out meaning (areas_of book) month (take n (entries_in j)) ≡ worked w → Balanced (length (areas_of book)) w)
           → Account meaning' t (h ++ event_of (posts month n) (told (λ _. posted) r) ∷ []) book' j after free'
       by (Ok cents) e (Ok u) ans lines left m balance =

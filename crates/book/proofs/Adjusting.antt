@@ -6,7 +6,7 @@ use Rattle.std.proofs.lemmas.Int.{ints, to_z-of_z}
 use Rattle.std.proofs.lemmas.List.Sums.{sum_by-cons}
 use Rattle.std.proofs.lemmas.Bool.{cases_lt, ltb-false}
 use Rattle.charges.specs.Answered.{first_fault-pass, first_fault-stop}
-use Rattle.book.specs.Answers.{netsAnswer}
+use Rattle.book.specs.Answers.{nets_answer}
 use Rattle.book.specs.Workings.{plain, adjustment, weight_check, net_checks, netted, nets_of}
 use Rattle.book.specs.Workings.{Refusal as BookRefusal}
 use Rattle.division.specs.Laws.{Divides, Rounds}
@@ -66,17 +66,17 @@ shares-small sum weights limit h k = omega (arith, share-magnitude shares runnin
 
 -- the checks of the nets, as the code goes through them
 module _ (rows : List OwnerRow) (bills : List ℤ) (parts : List ℤ) where
-  pub rate-stops : (f : BookRefusal) → first_fault (each_from rate_check 0 rows) ≡ Some f → ◌≡◌ {A = Result (List ℤ) BookRefusal} (Err f) (netsAnswer (netted (first_fault (net_checks rows bills)) rows parts bills))
+  pub rate-stops : (f : BookRefusal) → first_fault (each_from rate_check 0 rows) ≡ Some f → ◌≡◌ {A = Result (List ℤ) BookRefusal} (Err f) (nets_answer (netted (first_fault (net_checks rows bills)) rows parts bills))
   rate-stops f e = let stop = first_fault-stop (each_from rate_check 0 rows) (weight_check rows bills ∷ []) f e in rw stop
 
   module _ (clear : first_fault (each_from rate_check 0 rows) ≡ None) where
     checks-are : (b : Bool) → (weight_check rows bills).fails ≡ b → first_fault (net_checks rows bills) ≡ cond b (Some (plain 15)) None
     checks-are b e = first_fault-pass (each_from rate_check 0 rows) (weight_check rows bills ∷ []) clear ∙ ap (λ t. cond t (Some (plain 15)) None) e
 
-    pub weight-stops : (weight_check rows bills).fails ≡ true → ◌≡◌ {A = Result (List ℤ) BookRefusal} (Err (plain 15)) (netsAnswer (netted (first_fault (net_checks rows bills)) rows parts bills))
+    pub weight-stops : (weight_check rows bills).fails ≡ true → ◌≡◌ {A = Result (List ℤ) BookRefusal} (Err (plain 15)) (nets_answer (netted (first_fault (net_checks rows bills)) rows parts bills))
     weight-stops e = let stop = checks-are true e in rw stop
 
-    pub nothing_stops : (nets : List ℤ) → nets ≡ nets_of rows bills → (weight_check rows bills).fails ≡ false → ◌≡◌ {A = Result (List ℤ) BookRefusal} (Ok nets) (netsAnswer (netted (first_fault (net_checks rows bills)) rows parts bills))
+    pub nothing_stops : (nets : List ℤ) → nets ≡ nets_of rows bills → (weight_check rows bills).fails ≡ false → ◌≡◌ {A = Result (List ℤ) BookRefusal} (Ok nets) (nets_answer (netted (first_fault (net_checks rows bills)) rows parts bills))
     nothing_stops nets is e = let pass = checks-are false e in rw (pass, is)
 
 -- the adjustment as the code works it out

@@ -29,20 +29,20 @@ module _ (bills amounts shares : List ℤ) (same : length amounts ≡ length bil
   pub length-nets : length nets ≡ length bills
   length-nets = length-less (less bills amounts) shares (length-less bills amounts (sym same) ∙ sym as_many) ∙ length-less bills amounts (sym same)
 
-  pub getD-nets : (k : ℕ) → get_or nets k (pos 0) ≡ (get_or bills k (pos 0) -ℤ get_or amounts k (pos 0)) -ℤ get_or shares k (pos 0)
-  getD-nets k =
+  pub get_or-nets : (k : ℕ) → get_or nets k (pos 0) ≡ (get_or bills k (pos 0) -ℤ get_or amounts k (pos 0)) -ℤ get_or shares k (pos 0)
+  get_or-nets k =
       get_or-less (less bills amounts) shares k (length-less bills amounts (sym same) ∙ sym as_many) ∙ ap (λ z. z -ℤ get_or shares k (pos 0)) (get_or-less bills amounts k (sym same))
 
   pub nets-more : (items : List ℤ) (i : ℕ) (z : ℤ) → i < length bills → i < length items → z ≡ (get_or bills i (pos 0) -ℤ get_or amounts i (pos 0)) -ℤ get_or shares i (pos 0)
       → take i items ≡ take i nets → take (i + 1) (set items i z) ≡ take (i + 1) nets
   nets-more items i z h k e so_far =
-      take_more_set items i z k ∙ ap (λ front. front ++ z ∷ []) so_far ∙ ap (λ x. take i nets ++ x ∷ []) (e ∙ sym (getD-nets i)) ∙ sym (take_more nets i (pos 0) (omega (arith, length-nets)))
+      take_more_set items i z k ∙ ap (λ front. front ++ z ∷ []) so_far ∙ ap (λ x. take i nets ++ x ∷ []) (e ∙ sym (get_or-nets i)) ∙ sym (take_more nets i (pos 0) (omega (arith, length-nets)))
 
   pub nets-all : (items : List ℤ) (i : ℕ) → i ≡ length bills → take i items ≡ take i nets → take (length bills) items ≡ nets
   nets-all items i e so_far = ap (λ n. take n items) (sym e) ∙ so_far ∙ take_all i nets (omega (arith, length-nets))
 
   pub nets-small : AllWithin 10000000000000 bills → AllWithin 10000000000000 amounts → AllWithin 320000000000000 shares → AllWithin 340000000000000 nets
-  nets-small b a s k = rw (getD-nets k) (omega (arith, ints, b k, a k, s k))
+  nets-small b a s k = rw (get_or-nets k) (omega (arith, ints, b k, a k, s k))
 
 pub sum-next : (xs : List ℤ) (i : ℕ) (so_far : ℤ) → i < length xs → so_far ≡ int_sum (take i xs) → so_far +ℤ get_or xs i (pos 0) ≡ int_sum (take (i + 1) xs)
 sum-next xs i so_far h e = ap (λ z. z +ℤ get_or xs i (pos 0)) e ∙ sym (fold_more ◌+ℤ◌ (pos 0) xs i (pos 0) h)

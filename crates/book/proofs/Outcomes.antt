@@ -8,7 +8,7 @@ use Rattle.charges.specs.Checks.{Check, first_fault, each_from}
 use Rattle.charges.specs.Outcomes.{Outcome, refused, billed, Small}
 use Rattle.charges.specs.declared.table.OwnerRow.{OwnerRow}
 use Rattle.charges.specs.Answered.{first_fault-pass, first_fault-stop}
-use Rattle.book.specs.Answers.{netsAnswer}
+use Rattle.book.specs.Answers.{nets_answer}
 use Rattle.book.specs.Bounds.{AllWithin}
 use Rattle.book.specs.Entries.{Noted}
 use Rattle.book.specs.Workings.{Refusal, plain, filing_check, reading_check, totals_check, table_checks, rows_from, charged, settled, netted, net_checks, worked_out}
@@ -27,10 +27,10 @@ module _ (meaning : ℕ → List OwnerRow → Outcome) (areas : List ℕ) (month
   totals = totals_check rows ∷ []
 
   abbrev answer : Result (List ℤ) Refusal
-  answer = netsAnswer (worked_out meaning areas month entries)
+  answer = nets_answer (worked_out meaning areas month entries)
 
   stops : (f : Refusal) → first_fault (table_checks month areas entries) ≡ Some f → ◌≡◌ {A = Result (List ℤ) Refusal} (Err f) answer
-  stops f e = sym (ap (λ o. netsAnswer (charged o (meaning month) rows)) e)
+  stops f e = sym (ap (λ o. nets_answer (charged o (meaning month) rows)) e)
 
   pub filing-stops : (f : Refusal) → Some f ≡ first_fault filings → ◌≡◌ {A = Result (List ℤ) Refusal} (Err f) answer
   filing-stops f e = stops f (first_fault-stop filings (readings ++ totals) f (sym e))
@@ -47,14 +47,14 @@ module _ (meaning : ℕ → List OwnerRow → Outcome) (areas : List ℕ) (month
       totals-stop f e is = ap Err is ∙ stops (plain 11) (checks-are true e)
 
       module _ (tabled : (totals_check rows).fails ≡ false) where
-        goes_on : netsAnswer (settled (meaning month rows) rows) ≡ answer
-        goes_on = sym (ap (λ o. netsAnswer (charged o (meaning month) rows)) (checks-are false tabled))
+        goes_on : nets_answer (settled (meaning month rows) rows) ≡ answer
+        goes_on = sym (ap (λ o. nets_answer (charged o (meaning month) rows)) (checks-are false tabled))
 
         pub charge-stops : (n p l : ℕ) → refused n p l ≡ meaning month rows → ◌≡◌ {A = Result (List ℤ) Refusal} (Err (record { number = n; place = Some p; level = Some l })) answer
-        charge-stops n p l e = ap (λ o. netsAnswer (settled o rows)) e ∙ goes_on
+        charge-stops n p l e = ap (λ o. nets_answer (settled o rows)) e ∙ goes_on
 
-        pub nets-follow : (parts bills : List ℤ) (r : Result (List ℤ) Refusal) → billed parts bills ≡ meaning month rows → r ≡ netsAnswer (netted (first_fault (net_checks rows bills)) rows parts bills) → r ≡ answer
-        nets-follow parts bills r e is = is ∙ ap (λ o. netsAnswer (settled o rows)) e ∙ goes_on
+        pub nets-follow : (parts bills : List ℤ) (r : Result (List ℤ) Refusal) → billed parts bills ≡ meaning month rows → r ≡ nets_answer (netted (first_fault (net_checks rows bills)) rows parts bills) → r ≡ answer
+        nets-follow parts bills r e is = is ∙ ap (λ o. nets_answer (settled o rows)) e ∙ goes_on
 
 pub bills-within : (bills : List ℤ) → All Small bills → AllWithin 10000000000000 bills
 bills-within bills all k = by (cases_lt k (length bills))

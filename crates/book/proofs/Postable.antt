@@ -4,7 +4,7 @@ use Rattle.std.proofs.lemmas.List.{take-map, take-take, take_all, length-take, g
 use Rattle.std.proofs.lemmas.Bool.{cases_lt, cases_Bool, lt-ltb, le-ltb, eqb-true, eqb-false}
 use Rattle.charges.specs.Outcomes.{Outcome}
 use Rattle.charges.specs.declared.table.OwnerRow.{OwnerRow}
-use Rattle.book.specs.Answers.{netsAnswer, netsIn, told}
+use Rattle.book.specs.Answers.{nets_answer, nets_in, told}
 use Rattle.book.specs.Entries.{Noted}
 use Rattle.book.specs.Meaning.{noted}
 use Rattle.book.specs.Postings.{post_checks, nets_before, cents_of, posting, lines_from}
@@ -27,14 +27,14 @@ first_counted items n counted k e = by (cases_lt counted n)
         ap (λ m. map noted (take m items)) some ∙ ap (map noted) (sym (take-take n counted items h)) ∙ sym (take-map noted n (take counted items))
 
 -- from no entries nothing is worked out
-pub nothing-worked : (meaning : ℕ → List OwnerRow → Outcome) (areas : List ℕ) (month : ℕ) → 1 ≤ length areas → ◌≡◌ {A = Result (List ℤ) Refusal} (netsAnswer (worked_out meaning areas month [])) (Err (placed 9 0))
+pub nothing-worked : (meaning : ℕ → List OwnerRow → Outcome) (areas : List ℕ) (month : ℕ) → 1 ≤ length areas → ◌≡◌ {A = Result (List ℤ) Refusal} (nets_answer (worked_out meaning areas month [])) (Err (placed 9 0))
 nothing-worked meaning [] month h = absurd (omega arith)
 nothing-worked meaning (a ∷ others) month h = refl
 
-pub some-worked : (meaning : ℕ → List OwnerRow → Outcome) (areas : List ℕ) (month n : ℕ) (entries : List Noted) (r : Result Nets BookFault) → 1 ≤ length areas → told netsIn r ≡ netsAnswer (worked_out meaning areas month (take n entries)) → IfOk r (λ _. 1 ≤ n)
+pub some-worked : (meaning : ℕ → List OwnerRow → Outcome) (areas : List ℕ) (month n : ℕ) (entries : List Noted) (r : Result Nets BookFault) → 1 ≤ length areas → told nets_in r ≡ nets_answer (worked_out meaning areas month (take n entries)) → IfOk r (λ _. 1 ≤ n)
 some-worked meaning areas month n entries (Err e) h is = tt
 some-worked meaning areas month zero entries (Ok nets) h is =
-    let bad : ◌≡◌ {A = Result (List ℤ) Refusal} (Ok (netsIn nets)) (Err (placed 9 0)) = is ∙ nothing-worked meaning areas month h in
+    let bad : ◌≡◌ {A = Result (List ℤ) Refusal} (Ok (nets_in nets)) (Err (placed 9 0)) = is ∙ nothing-worked meaning areas month h in
     let z : ◌≡◌ {A = ℕ} 0 1 = cc in absurd (omega arith)
 some-worked meaning areas month (suc n) entries (Ok nets) h is = omega arith
 
@@ -50,16 +50,16 @@ module _ (workedAt : ℕ → Working) (owners journal n month : ℕ) (mark : Opt
     untouched h = let e : ltb journal n ≡ false = le-ltb journal n low in rw (e, h) refl
 
     module _ (due : is_current mark month (take n entries) ≡ false) where
-      clear : (new old : Result (List ℤ) Refusal) → netsAnswer (workedAt n) ≡ new → nets_before workedAt owners mark ≡ old → answer ≡ cents_of None new old (ltb free owners)
+      clear : (new old : Result (List ℤ) Refusal) → nets_answer (workedAt n) ≡ new → nets_before workedAt owners mark ≡ old → answer ≡ cents_of None new old (ltb free owners)
       clear new old p q = let e : ltb journal n ≡ false = le-ltb journal n low in rw (e, due, p, q) refl
 
-      pub new-denied : (f : Refusal) → netsAnswer (workedAt n) ≡ Err f → answer ≡ Err f
+      pub new-denied : (f : Refusal) → nets_answer (workedAt n) ≡ Err f → answer ≡ Err f
       new-denied f p = clear (Err f) (nets_before workedAt owners mark) p refl
 
-      pub old-denied : (new : List ℤ) (f : Refusal) → netsAnswer (workedAt n) ≡ Ok new → nets_before workedAt owners mark ≡ Err f → answer ≡ Err f
+      pub old-denied : (new : List ℤ) (f : Refusal) → nets_answer (workedAt n) ≡ Ok new → nets_before workedAt owners mark ≡ Err f → answer ≡ Err f
       old-denied new f p q = clear (Ok new) (Err f) p q
 
-      module _ (new old : List ℤ) (p : netsAnswer (workedAt n) ≡ Ok new) (q : nets_before workedAt owners mark ≡ Ok old) where
+      module _ (new old : List ℤ) (p : nets_answer (workedAt n) ≡ Ok new) (q : nets_before workedAt owners mark ≡ Ok old) where
         pub short : free < owners → answer ≡ Err (plain 18)
         short h = clear (Ok new) (Ok old) p q ∙ ap (cents_of None (Ok new) (Ok old)) (lt-ltb free owners h)
 

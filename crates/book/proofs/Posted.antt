@@ -4,7 +4,7 @@ use Rattle.std.proofs.lemmas.List.{at_drop_more, at_drop_all, get_or-take, appen
 use Rattle.std.proofs.lemmas.Int.{ints, to_z-of_z}
 use Rattle.rolls.specs.Rows.{Row, row_of}
 use Rattle.charges.proofs.Reckoning.{small-fits}
-use Rattle.book.specs.Answers.{netsIn}
+use Rattle.book.specs.Answers.{nets_in}
 use Rattle.book.specs.Bounds.{AllWithin}
 use Rattle.book.specs.Postings.{lines_from}
 use Rattle.book.specs.Workings.{less}
@@ -29,19 +29,19 @@ module _ (nets before : Nets) (i : ℕ) (h : i < nets.count) (many : before.coun
   abbrev old : ℤ
   old = get_or before.items i (pos 0)
 
-  new_is : get_or (netsIn nets) i (pos 0) ≡ new
+  new_is : get_or (nets_in nets) i (pos 0) ≡ new
   new_is = get_or-take nets.count nets.items i (pos 0) h
 
-  old_is : get_or (netsIn before) i (pos 0) ≡ old
+  old_is : get_or (nets_in before) i (pos 0) ≡ old
   old_is = get_or-take before.count before.items i (pos 0) (omega arith)
 
-  same-long : length (netsIn nets) ≡ length (netsIn before)
+  same-long : length (nets_in nets) ≡ length (nets_in before)
   same-long = length-take-le nets.count nets.items nets.fits ∙ sym many ∙ sym (length-take-le before.count before.items before.fits)
 
-  pub cents-long : i < length (less (netsIn nets) (netsIn before))
-  cents-long = omega (arith, length-less (netsIn nets) (netsIn before) same-long, length-take-le nets.count nets.items nets.fits)
+  pub cents-long : i < length (less (nets_in nets) (nets_in before))
+  cents-long = omega (arith, length-less (nets_in nets) (nets_in before) same-long, length-take-le nets.count nets.items nets.fits)
 
-  module _ (small : AllWithin 340000000000000 (netsIn nets)) (little : AllWithin 340000000000000 (netsIn before)) where
+  module _ (small : AllWithin 340000000000000 (nets_in nets)) (little : AllWithin 340000000000000 (nets_in before)) where
     sizes : (nat_abs new ≤ 340000000000000) × (nat_abs old ≤ 340000000000000)
     sizes = (rw new_is at (small i), rw old_is at (little i))
 
@@ -54,10 +54,10 @@ module _ (nets before : Nets) (i : ℕ) (h : i < nets.count) (many : before.coun
     pub difference-fits : SFits w64 (to_z w64 (of_z w64 new) -ℤ to_z w64 (of_z w64 old))
     difference-fits = rw (new-cast, old-cast) (small-fits (new -ℤ old) (omega (arith, ints, sizes.0, sizes.1)))
 
-    pub difference-is : to_z w64 (of_z w64 (to_z w64 (of_z w64 new) -ℤ to_z w64 (of_z w64 old))) ≡ get_or (less (netsIn nets) (netsIn before)) i (pos 0)
+    pub difference-is : to_z w64 (of_z w64 (to_z w64 (of_z w64 new) -ℤ to_z w64 (of_z w64 old))) ≡ get_or (less (nets_in nets) (nets_in before)) i (pos 0)
     difference-is =
         to_z-of_z w64 _ difference-fits ∙ ap (λ z. z -ℤ to_z w64 (of_z w64 old)) new-cast ∙ ap (λ z. new -ℤ z) old-cast
-        ∙ ap (λ z. z -ℤ old) (sym new_is) ∙ ap (λ z. get_or (netsIn nets) i (pos 0) -ℤ z) (sym old_is) ∙ sym (get_or-less (netsIn nets) (netsIn before) i same-long)
+        ∙ ap (λ z. z -ℤ old) (sym new_is) ∙ ap (λ z. get_or (nets_in nets) i (pos 0) -ℤ z) (sym old_is) ∙ sym (get_or-less (nets_in nets) (nets_in before) i same-long)
 
     pub difference-small : nat_abs (to_z w64 (of_z w64 (to_z w64 (of_z w64 new) -ℤ to_z w64 (of_z w64 old)))) ≤ 800000000000000
     difference-small = let e = to_z-of_z w64 _ difference-fits ∙ ap (λ z. z -ℤ to_z w64 (of_z w64 old)) new-cast ∙ ap (λ z. new -ℤ z) old-cast in rw e (omega (arith, ints, sizes.0, sizes.1))

@@ -5,7 +5,7 @@ use Rattle.rolls.specs.Rows.{Row, row_of}
 use Rattle.charges.specs.Checks.{Check, first_fault}
 use Rattle.charges.specs.Outcomes.{Outcome}
 use Rattle.charges.specs.declared.table.OwnerRow.{OwnerRow}
-use Rattle.book.specs.Answers.{netsAnswer}
+use Rattle.book.specs.Answers.{nets_answer}
 use Rattle.book.specs.Books.{areas_of, mark_of}
 use Rattle.book.specs.Calls.{count_of, entries_in}
 use Rattle.book.specs.Entries.{Noted}
@@ -22,7 +22,7 @@ post_checks journal n month mark entries =
 -- the nets that were billed before: those at the mark, or none where the month was not settled
 abbrev pub nets_before : (ℕ → Working) → ℕ → Option ℕ → Result (List ℤ) Refusal
 nets_before workedAt owners None = Ok (replicate owners (pos 0))
-nets_before workedAt owners (Some mark) = netsAnswer (workedAt mark)
+nets_before workedAt owners (Some mark) = nets_answer (workedAt mark)
 
 -- the cents of the lines: the nets at n less those billed before; too few free lines are the last check
 abbrev pub cents_of : Option Refusal → Result (List ℤ) Refusal → Result (List ℤ) Refusal → Bool → Result (List ℤ) Refusal
@@ -35,7 +35,7 @@ cents_of None (Ok new) (Ok old) false = Ok (less new old)
 -- a month worked out at n entries, and at its mark before
 abbrev pub posting : (ℕ → Working) → ℕ → ℕ → ℕ → ℕ → Option ℕ → List Noted → ℕ → Result (List ℤ) Refusal
 posting workedAt owners journal n month mark entries free =
-    cents_of (first_fault (post_checks journal n month mark entries)) (netsAnswer (workedAt n)) (nets_before workedAt owners mark) (nat_lt free owners)
+    cents_of (first_fault (post_checks journal n month mark entries)) (nets_answer (workedAt n)) (nets_before workedAt owners mark) (nat_lt free owners)
 
 -- a line for every owner, in order, from the owner k on
 abbrev pub lines_from : ℕ → ℕ → ℕ → List ℤ → List Row

@@ -43,7 +43,7 @@ impl<C: Charge + Drop> Book<C> {
     // A book of owners in these areas, over one charge, with no month settled.
     pub fn new(areas: &[u8], charge: C) -> Result<Book<C>, BookFault>
         ensures book { MatchResult result (λ b. (first_fault (set_up_checks areas.now) ≡ None) × (areas_of b ≡ areas.now) × (b.charge ≡ charge) × ((month : ℕ) → mark_of b month ≡ None)) (λ e. first_fault (set_up_checks areas.now) ≡ Some (refusal e)) }
-        ensures begins { IfOk result (λ b. (journal : Vec Entry Global) (free : ℕ) → entries_of journal ≡ [] → Account (meaning b.charge) (record { areas = areas.entry.now; meaning = meaning charge; room = vec_capacity journal; lines = free }) [] b journal [] free) }
+        ensures begins { IfOk result (λ b. (journal : Vec Entry Global) (free : ℕ) → entries_of journal ≡ [] → Account (C.meaning b.charge) (record { areas = areas.entry.now; meaning = C.meaning charge; room = vec_capacity journal; lines = free }) [] b journal [] free) }
     {
         if areas.len() == 0 || areas.len() > 16 || strays(areas) {
             return Err(BookFault::Owners);

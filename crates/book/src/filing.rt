@@ -126,7 +126,7 @@ impl<C: Charge> Book<C> {
     ) -> Result<usize, BookFault>
         ensures answer { told (λ i. i) result ≡ verdict (vec_len journal.old) (filing_checks (length (areas_of self.now)) (vec_len journal.old) (vec_capacity journal.old) (filed_as owner first last ehv nhv load peak)) }
         ensures journal { Enters (filed (filed_as owner first last ehv nhv load peak)) result journal.old journal.new }
-        ensures law { (t : Terms) (h : List Event) (rows : List Row) (free : ℕ) → Account (meaning self.now.charge) t h self.now journal.old rows free → Account (meaning self.now.charge) t (h ++ event_of (files (filed_as owner first last ehv nhv load peak)) (told entered result) ∷ []) self.now journal.new rows free }
+        ensures law { (t : Terms) (h : List Event) (rows : List Row) (free : ℕ) → Account (C.meaning self.now.charge) t h self.now journal.old rows free → Account (C.meaning self.now.charge) t (h ++ event_of (files (filed_as owner first last ehv nhv load peak)) (told entered result) ∷ []) self.now journal.new rows free }
     {
         self.enter_filing(journal, owner, first, last, ehv, nhv, load, peak)
     }
@@ -142,7 +142,7 @@ impl<C: Charge> Book<C> {
     ) -> Result<usize, BookFault>
         ensures answer { told (λ i. i) result ≡ verdict (vec_len journal.old) (reading_checks (length (areas_of self.now)) (vec_len journal.old) (vec_capacity journal.old) (metered_as month owner load peak)) }
         ensures journal { Enters (metered (metered_as month owner load peak)) result journal.old journal.new }
-        ensures law { (t : Terms) (h : List Event) (rows : List Row) (free : ℕ) → Account (meaning self.now.charge) t h self.now journal.old rows free → Account (meaning self.now.charge) t (h ++ event_of (reads (metered_as month owner load peak)) (told entered result) ∷ []) self.now journal.new rows free }
+        ensures law { (t : Terms) (h : List Event) (rows : List Row) (free : ℕ) → Account (C.meaning self.now.charge) t h self.now journal.old rows free → Account (C.meaning self.now.charge) t (h ++ event_of (reads (metered_as month owner load peak)) (told entered result) ∷ []) self.now journal.new rows free }
     {
         self.enter_reading(journal, month, owner, load, peak)
     }

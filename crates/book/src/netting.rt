@@ -4,7 +4,7 @@ ghost use Rattle.division.specs.Shares.{total, int_sum, shares};
 ghost use Rattle.charges.specs.Checks.{first_fault, passes};
 ghost use Rattle.charges.specs.Outcomes.{Small};
 ghost use Rattle.charges.specs.Rows.{Good};
-ghost use Rattle.book.specs.Answers.{netsIn, netsAnswer, told};
+ghost use Rattle.book.specs.Answers.{nets_in, nets_answer, told};
 ghost use Rattle.book.specs.Bounds.{AllWithin};
 ghost use Rattle.book.specs.Workings.{less, net_checks, netted, weight_of};
 
@@ -46,8 +46,8 @@ fn less_both(bills: &[i64], amounts: &[i64], shares: &[i64]) -> Nets
     requires amounts { length amounts.now ≡ length bills.now }
     requires shares { length shares.now ≡ length bills.now }
     requires small { AllWithin 10000000000000 bills.now × AllWithin 10000000000000 amounts.now × AllWithin 320000000000000 shares.now }
-    ensures value { netsIn result ≡ less (less bills.now amounts.now) shares.now }
-    ensures bound { AllWithin 340000000000000 (netsIn result) }
+    ensures value { nets_in result ≡ less (less bills.now amounts.now) shares.now }
+    ensures bound { AllWithin 340000000000000 (nets_in result) }
     ensures many { result.count ≡ length bills.now }
 {
     let mut items = [0; 16];
@@ -87,8 +87,8 @@ pub(crate) fn nets(rows: &[OwnerRow], bills: &[i64]) -> Result<Nets, BookFault>
     requires good { Good rows.now }
     requires many { length bills.now ≡ length rows.now }
     requires small { AllWithin 10000000000000 bills.now }
-    ensures value { (parts : List ℤ) → told netsIn result ≡ netsAnswer (netted (first_fault (net_checks rows.now bills.now)) rows.now parts bills.now) }
-    ensures bound { IfOk result (λ n. AllWithin 340000000000000 (netsIn n)) }
+    ensures value { (parts : List ℤ) → told nets_in result ≡ nets_answer (netted (first_fault (net_checks rows.now bills.now)) rows.now parts bills.now) }
+    ensures bound { IfOk result (λ n. AllWithin 340000000000000 (nets_in n)) }
     ensures many { IfOk result (λ n. n.count ≡ length bills.now) }
 {
     if let Some(fault) = first_high_rate(rows) {

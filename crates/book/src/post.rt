@@ -2,7 +2,7 @@
 ghost use Rattle.std.specs.Prelude.{◌≡◌, ℕ, ◌+◌, ◌≤◌, List, [], ◌∷◌, ◌++◌, length, take, IfOk, OnOk};
 ghost use Rattle.rolls.specs.Rows.{Row, Within, row_of};
 ghost use Rattle.book.specs.Accounts.{Account};
-ghost use Rattle.book.specs.Answers.{netsIn, netsAnswer, told, faultOf};
+ghost use Rattle.book.specs.Answers.{nets_in, nets_answer, told, fault_of};
 ghost use Rattle.book.specs.Books.{areas_of, mark_of, Marked};
 ghost use Rattle.book.specs.Bounds.{AllWithin};
 ghost use Rattle.book.specs.Calls.{entries_in};
@@ -24,9 +24,9 @@ use rolls::{Line, Roll};
 // Adds one line, for which there is room.
 fn add_line<R: Roll>(roll: &mut R, month: u16, owner: u8, mark: u16, cents: i64)
     requires line { Within month owner mark cents }
-    requires room { 1 ≤ spare roll.old }
-    ensures lines { lines roll.new ≡ lines roll.old ++ row_of month owner mark cents ∷ [] }
-    ensures spare { spare roll.old ≡ spare roll.new + 1 }
+    requires room { 1 ≤ R.spare roll.old }
+    ensures lines { R.lines roll.new ≡ R.lines roll.old ++ row_of month owner mark cents ∷ [] }
+    ensures spare { R.spare roll.old ≡ R.spare roll.new + 1 }
 {
     if let Some(line) = Line::new(month, owner, mark, cents) {
         let _ = roll.add(line);
@@ -38,10 +38,10 @@ fn add_lines<R: Roll>(roll: &mut R, month: u16, mark: u16, nets: &Nets, before: 
     requires month { month ≤ 359 }
     requires mark { (1 ≤ mark) × (mark ≤ 8192) }
     requires many { before.now.count ≡ nets.now.count }
-    requires small { AllWithin 340000000000000 (netsIn nets.now) × AllWithin 340000000000000 (netsIn before.now) }
-    requires room { nets.now.count ≤ spare roll.old }
-    ensures lines { lines roll.new ≡ lines roll.old ++ lines_from month mark 0 (less (netsIn nets.now) (netsIn before.now)) }
-    ensures spare { spare roll.old ≡ spare roll.new + nets.now.count }
+    requires small { AllWithin 340000000000000 (nets_in nets.now) × AllWithin 340000000000000 (nets_in before.now) }
+    requires room { nets.now.count ≤ R.spare roll.old }
+    ensures lines { R.lines roll.new ≡ R.lines roll.old ++ lines_from month mark 0 (less (nets_in nets.now) (nets_in before.now)) }
+    ensures spare { R.spare roll.old ≡ R.spare roll.new + nets.now.count }
 {
     for i in 0..nets.count {
         add_line(roll, month, i as u8, mark, nets.items[i] - before.items[i]);
@@ -51,11 +51,11 @@ fn add_lines<R: Roll>(roll: &mut R, month: u16, mark: u16, nets: &Nets, before: 
 impl<C: Charge> Book<C> {
     // The nets of a month at so many entries; from no entries there are none.
     fn nets_at(&self, journal: &Vec<Entry>, month: u16, count: u16) -> Result<Nets, BookFault>
-        ensures value { told netsIn result ≡ netsAnswer (worked_out (meaning self.now.charge) (areas_of self.now) month (take count (entries_in journal.now))) }
-        ensures bound { IfOk result (λ n. AllWithin 340000000000000 (netsIn n)) }
+        ensures value { told nets_in result ≡ nets_answer (worked_out (C.meaning self.now.charge) (areas_of self.now) month (take count (entries_in journal.now))) }
+        ensures bound { IfOk result (λ n. AllWithin 340000000000000 (nets_in n)) }
         ensures many { IfOk result (λ n. n.count ≡ self.now.count) }
         ensures some { OnOk result (1 ≤ count) }
-        ensures balanced { OnOk result ((w : Figures) → worked_out (meaning self.now.charge) (areas_of self.now) month (take count (entries_in journal.now)) ≡ worked w → Balanced (length (areas_of self.now)) w) }
+        ensures balanced { OnOk result ((w : Figures) → worked_out (C.meaning self.now.charge) (areas_of self.now) month (take count (entries_in journal.now)) ≡ worked w → Balanced (length (areas_of self.now)) w) }
     {
         let entries = first_entries(journal, count);
         work_out(&self.charge, &self.areas[0..self.count], entries, month)
@@ -64,8 +64,8 @@ impl<C: Charge> Book<C> {
     // The nets that were billed before: none of a month without a mark.
     fn nets_before(&self, journal: &Vec<Entry>, month: u16) -> Result<Nets, BookFault>
         requires { month ≤ 359 }
-        ensures value { told netsIn result ≡ nets_before (λ k. worked_out (meaning self.now.charge) (areas_of self.now) month (take k (entries_in journal.now))) (length (areas_of self.now)) (mark_of self.now month) }
-        ensures bound { IfOk result (λ n. AllWithin 340000000000000 (netsIn n)) }
+        ensures value { told nets_in result ≡ nets_before (λ k. worked_out (C.meaning self.now.charge) (areas_of self.now) month (take k (entries_in journal.now))) (length (areas_of self.now)) (mark_of self.now month) }
+        ensures bound { IfOk result (λ n. AllWithin 340000000000000 (nets_in n)) }
         ensures many { IfOk result (λ n. n.count ≡ self.now.count) }
     {
         let Some(mark) = self.marks[usize::from(month)] else {
@@ -86,11 +86,11 @@ impl<C: Charge> Book<C> {
         count: u16,
     ) -> Result<(), BookFault>
         requires { month ≤ 359 }
-        ensures answer { faultOf (told (λ x. x) result) ≡ faultOf (posting_in (meaning self.old.charge) self.old journal.now month count (spare roll.old)) }
-        ensures lines { lines roll.new ≡ lines roll.old ++ lines_of month count (posting_in (meaning self.old.charge) self.old journal.now month count (spare roll.old)) }
-        ensures spare { spare roll.old ≡ spare roll.new + length (lines_of month count (posting_in (meaning self.old.charge) self.old journal.now month count (spare roll.old))) }
-        ensures book { Marked month (mark_after count (mark_of self.old month) (posting_in (meaning self.old.charge) self.old journal.now month count (spare roll.old))) self.old self.new }
-        ensures balanced { OnOk result ((w : Figures) → worked_out (meaning self.old.charge) (areas_of self.old) month (take count (entries_in journal.now)) ≡ worked w → Balanced (length (areas_of self.old)) w) }
+        ensures answer { fault_of (told (λ x. x) result) ≡ fault_of (posting_in (C.meaning self.old.charge) self.old journal.now month count (R.spare roll.old)) }
+        ensures lines { R.lines roll.new ≡ R.lines roll.old ++ lines_of month count (posting_in (C.meaning self.old.charge) self.old journal.now month count (R.spare roll.old)) }
+        ensures spare { R.spare roll.old ≡ R.spare roll.new + length (lines_of month count (posting_in (C.meaning self.old.charge) self.old journal.now month count (R.spare roll.old))) }
+        ensures book { Marked month (mark_after count (mark_of self.old month) (posting_in (C.meaning self.old.charge) self.old journal.now month count (R.spare roll.old))) self.old self.new }
+        ensures balanced { OnOk result ((w : Figures) → worked_out (C.meaning self.old.charge) (areas_of self.old) month (take count (entries_in journal.now)) ≡ worked w → Balanced (length (areas_of self.old)) w) }
     {
         if count > counted(journal) {
             return Err(BookFault::BeyondJournal);
@@ -116,11 +116,11 @@ impl<C: Charge> Book<C> {
         roll: &mut R,
         opening: Opening,
     ) -> Result<(), BookFault>
-        ensures answer { faultOf (told (λ x. x) result) ≡ faultOf (posting_in (meaning self.old.charge) self.old journal.now opening.month opening.count (spare roll.old)) }
-        ensures lines { lines roll.new ≡ lines roll.old ++ lines_of opening.month opening.count (posting_in (meaning self.old.charge) self.old journal.now opening.month opening.count (spare roll.old)) }
-        ensures spare { spare roll.old ≡ spare roll.new + length (lines_of opening.month opening.count (posting_in (meaning self.old.charge) self.old journal.now opening.month opening.count (spare roll.old))) }
-        ensures book { Marked opening.month (mark_after opening.count (mark_of self.old opening.month) (posting_in (meaning self.old.charge) self.old journal.now opening.month opening.count (spare roll.old))) self.old self.new }
-        ensures law { (t : Terms) (h : List Event) (earlier before after : List Row) → lines roll.old ≡ earlier ++ before → lines roll.new ≡ earlier ++ after → Account (meaning self.old.charge) t h self.old journal.now before (spare roll.old) → Account (meaning self.new.charge) t (h ++ event_of (posts opening.month opening.count) (told (λ _. posted) result) ∷ []) self.new journal.now after (spare roll.new) }
+        ensures answer { fault_of (told (λ x. x) result) ≡ fault_of (posting_in (C.meaning self.old.charge) self.old journal.now opening.month opening.count (R.spare roll.old)) }
+        ensures lines { R.lines roll.new ≡ R.lines roll.old ++ lines_of opening.month opening.count (posting_in (C.meaning self.old.charge) self.old journal.now opening.month opening.count (R.spare roll.old)) }
+        ensures spare { R.spare roll.old ≡ R.spare roll.new + length (lines_of opening.month opening.count (posting_in (C.meaning self.old.charge) self.old journal.now opening.month opening.count (R.spare roll.old))) }
+        ensures book { Marked opening.month (mark_after opening.count (mark_of self.old opening.month) (posting_in (C.meaning self.old.charge) self.old journal.now opening.month opening.count (R.spare roll.old))) self.old self.new }
+        ensures law { (t : Terms) (h : List Event) (earlier before after : List Row) → R.lines roll.old ≡ earlier ++ before → R.lines roll.new ≡ earlier ++ after → Account (C.meaning self.old.charge) t h self.old journal.now before (R.spare roll.old) → Account (C.meaning self.new.charge) t (h ++ event_of (posts opening.month opening.count) (told (λ _. posted) result) ∷ []) self.new journal.now after (R.spare roll.new) }
     {
         let month = opening.month;
         let count = opening.count;

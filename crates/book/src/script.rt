@@ -3,7 +3,7 @@ ghost use Rattle.std.specs.Prelude.{◌≡◌, ℕ, List, [], ◌∷◌, ◌++�
 ghost use Rattle.charges.specs.Checks.{first_fault};
 ghost use Rattle.rolls.specs.Rows.{Row};
 ghost use Rattle.book.specs.Accounts.{Account};
-ghost use Rattle.book.specs.Answers.{faultOf, told};
+ghost use Rattle.book.specs.Answers.{fault_of, told};
 ghost use Rattle.book.specs.Checks.{set_up_checks};
 ghost use Rattle.book.specs.Histories.{Event, Terms, drew, entered, event_of, opens, posted, stands};
 ghost use Rattle.book.specs.Runs.{AnswersAreTheChecks, BurdensStayWithinCaps, EachPostingAddsOneLineAnOwner, JournalHoldsTheEntries, LinesAddUpToTheNet, PartsCoverTheRequirements, PostingsCancel, run_of};
@@ -56,7 +56,7 @@ impl Written {
 impl<C: Charge> Book<C> {
     // Opens a month, and writes the opening down by its month and count.
     fn open_written(&self, journal: &Vec<Entry>, month: u16) -> Result<Reply, BookFault>
-        ensures { (t : Terms) (h : List Event) (rows : List Row) (free : ℕ) → Account (meaning self.now.charge) t h self.now journal.now rows free → Account (meaning self.now.charge) t (h ++ event_of (opens month empty_draft) (told grant_of result) ∷ []) self.now journal.now rows free }
+        ensures { (t : Terms) (h : List Event) (rows : List Row) (free : ℕ) → Account (C.meaning self.now.charge) t h self.now journal.now rows free → Account (C.meaning self.now.charge) t (h ++ event_of (opens month empty_draft) (told grant_of result) ∷ []) self.now journal.now rows free }
     {
         let mut draft = [0; 16];
         let opening = self.open(journal, month, &mut draft)?;
@@ -77,8 +77,8 @@ impl<C: Charge> Book<C> {
         roll: &mut R,
         call: &Call,
     ) -> Result<Reply, BookFault>
-        ensures kept { (earlier before : List Row) → lines roll.old ≡ earlier ++ before → lines roll.new ≡ earlier ++ drop (length earlier) (lines roll.new) }
-        ensures law { (t : Terms) (h : List Event) (earlier before after : List Row) → lines roll.old ≡ earlier ++ before → lines roll.new ≡ earlier ++ after → Account (meaning self.old.charge) t h self.old journal.old before (spare roll.old) → Account (meaning self.new.charge) t (h ++ event_of (request_of call.now) (told grant_of result) ∷ []) self.new journal.new after (spare roll.new) }
+        ensures kept { (earlier before : List Row) → R.lines roll.old ≡ earlier ++ before → R.lines roll.new ≡ earlier ++ drop (length earlier) (R.lines roll.new) }
+        ensures law { (t : Terms) (h : List Event) (earlier before after : List Row) → R.lines roll.old ≡ earlier ++ before → R.lines roll.new ≡ earlier ++ after → Account (C.meaning self.old.charge) t h self.old journal.old before (R.spare roll.old) → Account (C.meaning self.new.charge) t (h ++ event_of (request_of call.now) (told grant_of result) ∷ []) self.new journal.new after (R.spare roll.new) }
     {
         match *call {
             Call::File {
@@ -114,10 +114,10 @@ impl<C: Charge> Book<C> {
         calls: &[Call],
         answers: &mut [Result<Reply, BookFault>],
     )
-        ensures kept { lines roll.new ≡ lines roll.old ++ drop (length (lines roll.old)) (lines roll.new) }
+        ensures kept { R.lines roll.new ≡ R.lines roll.old ++ drop (length (R.lines roll.old)) (R.lines roll.new) }
         ensures places { length answers.new ≡ length answers.old }
         ensures rest { drop (length calls.now) answers.new ≡ drop (length calls.now) answers.old }
-        ensures law { (t : Terms) → Account (meaning self.old.charge) t [] self.old journal.old [] (spare roll.old) → Account (meaning self.new.charge) t (history_of calls.now answers.new) self.new journal.new (drop (length (lines roll.old)) (lines roll.new)) (spare roll.new) }
+        ensures law { (t : Terms) → Account (C.meaning self.old.charge) t [] self.old journal.old [] (R.spare roll.old) → Account (C.meaning self.new.charge) t (history_of calls.now answers.new) self.new journal.new (drop (length (R.lines roll.old)) (R.lines roll.new)) (R.spare roll.new) }
     {
         for i in 0..calls.len().min(answers.len()) {
             answers[i] = self.perform(journal, roll, &calls[i]);
@@ -134,17 +134,17 @@ pub fn replay<C: Charge + Drop, R: Roll>(
     calls: &[Call],
     answers: &mut [Result<Reply, BookFault>],
 ) -> Result<(), BookFault>
-    ensures answer { faultOf (told (λ x. x) result) ≡ first_fault (set_up_checks areas.now) }
+    ensures answer { fault_of (told (λ x. x) result) ≡ first_fault (set_up_checks areas.now) }
     ensures refused { OnErr result ((journal.new ≡ journal.old) × (roll.new ≡ roll.old) × (answers.new ≡ answers.old)) }
-    ensures kept { lines roll.new ≡ lines roll.old ++ drop (length (lines roll.old)) (lines roll.new) }
+    ensures kept { R.lines roll.new ≡ R.lines roll.old ++ drop (length (R.lines roll.old)) (R.lines roll.new) }
     ensures rest { (length answers.new ≡ length answers.old) × (drop (length calls.now) answers.new ≡ drop (length calls.now) answers.old) }
-    ensures journal_holds_the_entries { OnOk result (JournalHoldsTheEntries (run_of (meaning charge) areas.now (vec_capacity journal.old) (spare roll.old) calls.now answers.new journal.new (lines roll.old) (lines roll.new))) }
-    ensures answers_are_the_checks { OnOk result (AnswersAreTheChecks (run_of (meaning charge) areas.now (vec_capacity journal.old) (spare roll.old) calls.now answers.new journal.new (lines roll.old) (lines roll.new))) }
-    ensures lines_add_up_to_the_net { OnOk result (LinesAddUpToTheNet (run_of (meaning charge) areas.now (vec_capacity journal.old) (spare roll.old) calls.now answers.new journal.new (lines roll.old) (lines roll.new))) }
-    ensures each_posting_adds_one_line_an_owner { OnOk result (EachPostingAddsOneLineAnOwner (run_of (meaning charge) areas.now (vec_capacity journal.old) (spare roll.old) calls.now answers.new journal.new (lines roll.old) (lines roll.new))) }
-    ensures postings_cancel { OnOk result (PostingsCancel (run_of (meaning charge) areas.now (vec_capacity journal.old) (spare roll.old) calls.now answers.new journal.new (lines roll.old) (lines roll.new))) }
-    ensures parts_cover_the_requirements { OnOk result (PartsCoverTheRequirements (run_of (meaning charge) areas.now (vec_capacity journal.old) (spare roll.old) calls.now answers.new journal.new (lines roll.old) (lines roll.new))) }
-    ensures burdens_stay_within_caps { OnOk result (BurdensStayWithinCaps (run_of (meaning charge) areas.now (vec_capacity journal.old) (spare roll.old) calls.now answers.new journal.new (lines roll.old) (lines roll.new))) }
+    ensures journal_holds_the_entries { OnOk result (JournalHoldsTheEntries (run_of (C.meaning charge) areas.now (vec_capacity journal.old) (R.spare roll.old) calls.now answers.new journal.new (R.lines roll.old) (R.lines roll.new))) }
+    ensures answers_are_the_checks { OnOk result (AnswersAreTheChecks (run_of (C.meaning charge) areas.now (vec_capacity journal.old) (R.spare roll.old) calls.now answers.new journal.new (R.lines roll.old) (R.lines roll.new))) }
+    ensures lines_add_up_to_the_net { OnOk result (LinesAddUpToTheNet (run_of (C.meaning charge) areas.now (vec_capacity journal.old) (R.spare roll.old) calls.now answers.new journal.new (R.lines roll.old) (R.lines roll.new))) }
+    ensures each_posting_adds_one_line_an_owner { OnOk result (EachPostingAddsOneLineAnOwner (run_of (C.meaning charge) areas.now (vec_capacity journal.old) (R.spare roll.old) calls.now answers.new journal.new (R.lines roll.old) (R.lines roll.new))) }
+    ensures postings_cancel { OnOk result (PostingsCancel (run_of (C.meaning charge) areas.now (vec_capacity journal.old) (R.spare roll.old) calls.now answers.new journal.new (R.lines roll.old) (R.lines roll.new))) }
+    ensures parts_cover_the_requirements { OnOk result (PartsCoverTheRequirements (run_of (C.meaning charge) areas.now (vec_capacity journal.old) (R.spare roll.old) calls.now answers.new journal.new (R.lines roll.old) (R.lines roll.new))) }
+    ensures burdens_stay_within_caps { OnOk result (BurdensStayWithinCaps (run_of (C.meaning charge) areas.now (vec_capacity journal.old) (R.spare roll.old) calls.now answers.new journal.new (R.lines roll.old) (R.lines roll.new))) }
 {
     let mut book = Book::new(areas, charge)?;
     journal.clear();

@@ -37,8 +37,8 @@ impl<C: Charge> Book<C> {
     // Whether a month is unsettled, due or current, with its mark.
     pub fn state(&self, journal: &Vec<Entry>, month: u16) -> Result<State, BookFault>
         ensures answer { told state_as result ≡ verdict (state_of (mark_of self.now month) month (entries_in journal.now)) (state_checks month) }
-        ensures law { (t : Terms) (h : List Event) (rows : List Row) (free : ℕ) → Account (meaning self.now.charge) t h self.now journal.now rows free → Account (meaning self.now.charge) t (h ++ event_of (asks month) (told (λ s. stands (state_as s)) result) ∷ []) self.now journal.now rows free }
-        ensures state_is_told_by_the_calls { (t : Terms) (h : List Event) (rows : List Row) (free : ℕ) → Account (meaning self.now.charge) t h self.now journal.now rows free → told state_as result ≡ verdict (state_of (mark_by month h) month (entries_by h)) (state_checks month) }
+        ensures law { (t : Terms) (h : List Event) (rows : List Row) (free : ℕ) → Account (C.meaning self.now.charge) t h self.now journal.now rows free → Account (C.meaning self.now.charge) t (h ++ event_of (asks month) (told (λ s. stands (state_as s)) result) ∷ []) self.now journal.now rows free }
+        ensures state_is_told_by_the_calls { (t : Terms) (h : List Event) (rows : List Row) (free : ℕ) → Account (C.meaning self.now.charge) t h self.now journal.now rows free → told state_as result ≡ verdict (state_of (mark_by month h) month (entries_by h)) (state_checks month) }
     {
         self.state_of(journal, month)
     }

@@ -1,6 +1,6 @@
 // A month worked out from the owners' areas, the charge and the entries.
 ghost use Rattle.std.specs.Prelude.{◌≡◌, ℕ, ◌≤◌, map, length, IfOk, OnOk, slice_index};
-ghost use Rattle.book.specs.Answers.{netsIn, netsAnswer, told};
+ghost use Rattle.book.specs.Answers.{nets_in, nets_answer, told};
 ghost use Rattle.book.specs.Bounds.{AllWithin};
 ghost use Rattle.book.specs.Laws.{Balanced};
 ghost use Rattle.book.specs.Meaning.{noted};
@@ -23,10 +23,10 @@ pub(crate) fn work_out<C: Charge>(
     requires some { 1 ≤ length areas.now }
     requires few { length areas.now ≤ 16 }
     requires areas { (k : ℕ) → slice_index areas.now k ≤ 2 }
-    ensures value { told netsIn result ≡ netsAnswer (worked_out (meaning charge.now) areas.now month (map noted entries.now)) }
-    ensures bound { IfOk result (λ n. AllWithin 340000000000000 (netsIn n)) }
+    ensures value { told nets_in result ≡ nets_answer (worked_out (C.meaning charge.now) areas.now month (map noted entries.now)) }
+    ensures bound { IfOk result (λ n. AllWithin 340000000000000 (nets_in n)) }
     ensures many { IfOk result (λ n. n.count ≡ length areas.now) }
-    ensures balanced { OnOk result ((w : Figures) → worked_out (meaning charge.now) areas.now month (map noted entries.now) ≡ worked w → Balanced (length areas.now) w) }
+    ensures balanced { OnOk result ((w : Figures) → worked_out (C.meaning charge.now) areas.now month (map noted entries.now) ≡ worked w → Balanced (length areas.now) w) }
 {
     let standing = in_force(entries, month);
     if let Some(fault) = first_unfiled(areas, &standing) {

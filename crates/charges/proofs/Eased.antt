@@ -150,19 +150,19 @@ module _ (s : Caps) (a : Amounts) (small : AllBelow 500000000000 (amounts_of a))
     own-counted : (x : Amounts) → amounts_of x ≡ along of_uncapped (take j.count s.items) (amounts_of j) → x.count ≡ a.count
     own-counted x e = count_of x _ (gauged of_uncapped x e) ∙ length-along of_uncapped caps (adjusted shares caps bs) (sym (adjusted-long shares running-divides caps bs same)) ∙ caps-long
 
-    abbrev asCap : ℕ → ℤ → ℤ
-    asCap cap amount = pos cap
+    abbrev as_cap : ℕ → ℤ → ℤ
+    as_cap cap amount = pos cap
 
-    caps-are : (c : Amounts) → amounts_of c ≡ along asCap (take j.count s.items) (amounts_of j) → map nat_abs (amounts_of c) ≡ caps
-    caps-are c e = ap (map nat_abs) (gauged asCap c e) ∙ weights-of-caps caps (adjusted shares caps bs) (sym (adjusted-long shares running-divides caps bs same))
+    caps-are : (c : Amounts) → amounts_of c ≡ along as_cap (take j.count s.items) (amounts_of j) → map nat_abs (amounts_of c) ≡ caps
+    caps-are c e = ap (map nat_abs) (gauged as_cap c e) ∙ weights-of-caps caps (adjusted shares caps bs) (sym (adjusted-long shares running-divides caps bs same))
 
-    pub caps-held : (c : Amounts) → amounts_of c ≡ along asCap (take j.count s.items) (amounts_of j) → AllBelow 1000000000000000 (amounts_of c)
-    caps-held c e = held c _ 60000000 (gauged asCap c e) (omega arith) (below-along asCap caps (adjusted shares caps bs) (sym (adjusted-long shares running-divides caps bs same)) 60000000 0 (pos 0) (λ k _. small-caps k))
+    pub caps-held : (c : Amounts) → amounts_of c ≡ along as_cap (take j.count s.items) (amounts_of j) → AllBelow 1000000000000000 (amounts_of c)
+    caps-held c e = held c _ 60000000 (gauged as_cap c e) (omega arith) (below-along as_cap caps (adjusted shares caps bs) (sym (adjusted-long shares running-divides caps bs same)) 60000000 0 (pos 0) (λ k _. small-caps k))
 
     -- what capped owners bear, divided again
     module _ (g c d : Amounts) (z : ℤ) (fit : SFits w64 z) (z-is : z ≡ int_sum (amounts_of g))
         (g-is : amounts_of g ≡ along of_capped (take j.count s.items) (amounts_of j))
-        (c-is : amounts_of c ≡ along asCap (take j.count s.items) (amounts_of j))
+        (c-is : amounts_of c ≡ along as_cap (take j.count s.items) (amounts_of j))
         (d-is : amounts_of d ≡ shares (read z) (map nat_abs (amounts_of c))) where
       again-are : amounts_of d ≡ shares (int_sum (along of_capped caps (adjusted shares caps bs))) caps
       again-are = d-is ∙ ap (λ y. shares y (map nat_abs (amounts_of c))) (to_z-of_z w64 z fit ∙ z-is ∙ ap int_sum (gauged of_capped g g-is)) ∙ ap (shares (int_sum (along of_capped caps (adjusted shares caps bs)))) (caps-are c c-is)

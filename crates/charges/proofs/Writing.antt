@@ -15,7 +15,7 @@ use Rattle.division.specs.declared.Refusal.TheVariants.{LengthsDiffer, TooMuchWe
 use Rattle.charges.specs.Rows.{nobody}
 use Rattle.charges.specs.declared.amounts.Amounts.{Amounts}
 use Rattle.charges.specs.declared.table.OwnerRow.{OwnerRow}
-use Rattle.charges.specs.Along.{length-along, getD-along}
+use Rattle.charges.specs.Along.{length-along, get_or-along}
 
 -- a column that is written place by place
 module _ {X : Type 0} (column out : List X) (i : ℕ) (so_far : take i out ≡ take i column) where
@@ -47,7 +47,7 @@ module _ (f : ℤ → ℤ → ℤ) (a b : Amounts) (same : a.count ≡ b.count) 
   pub pair-at : (i : ℕ) → i < a.count → f (get_or a.items i (pos 0)) (get_or b.items i (pos 0)) ≡ get_or (along f (amounts_of a) (amounts_of b)) i (pos 0)
   pair-at i h =
       let lt-b : i < b.count = omega arith in
-      sym (getD-along f (amounts_of a) (amounts_of b) i (pos 0) (pos 0) (pos 0) pair-level (omega (arith, amounts-long a))
+      sym (get_or-along f (amounts_of a) (amounts_of b) i (pos 0) (pos 0) (pos 0) pair-level (omega (arith, amounts-long a))
       ∙ ap (λ x. f x (get_or (amounts_of b) i (pos 0))) (amount-at a i h)
       ∙ ap (f (get_or a.items i (pos 0))) (amount-at b i lt-b))
 
@@ -61,7 +61,7 @@ module _ (f : ℕ → ℤ → ℤ) (caps : List ℕ) (a : Amounts) (long : lengt
 
   pub gauge-at : (i : ℕ) → i < a.count → f (get_or caps i 0) (get_or a.items i (pos 0)) ≡ get_or (along f (take a.count caps) (amounts_of a)) i (pos 0)
   gauge-at i h =
-      sym (getD-along f (take a.count caps) (amounts_of a) i 0 (pos 0) (pos 0) caps-level (omega (arith, caps-level, amounts-long a))
+      sym (get_or-along f (take a.count caps) (amounts_of a) i 0 (pos 0) (pos 0) caps-level (omega (arith, caps-level, amounts-long a))
       ∙ ap (λ n. f n (get_or (amounts_of a) i (pos 0))) (get_or-take a.count caps i 0 h)
       ∙ ap (f (get_or caps i 0)) (amount-at a i h))
 
@@ -76,7 +76,7 @@ module _ (f : ℤ → OwnerRow → ℤ) (a : Amounts) (rows : List OwnerRow) (sa
   pub rows_at : (i : ℕ) → i < length rows → f (get_or a.items i (pos 0)) (get_or rows i nobody) ≡ get_or (along f (amounts_of a) rows) i (pos 0)
   rows_at i h =
       let lt : i < a.count = omega arith in
-      sym (getD-along f (amounts_of a) rows i (pos 0) nobody (pos 0) rows-level (omega (arith, rows-level))
+      sym (get_or-along f (amounts_of a) rows i (pos 0) nobody (pos 0) rows-level (omega (arith, rows-level))
       ∙ ap (λ x. f x (get_or rows i nobody)) (amount-at a i lt))
 
 -- one more amount is added
@@ -108,7 +108,7 @@ module _ {X Y : Type 0} (f : X → Y → ℤ) (xs : List X) (ys : List Y) (same 
   pub below-along : (d : X) (e : Y) → ((k : ℕ) → k < length xs → nat_abs (f (get_or xs k d) (get_or ys k e)) ≤ m) → AllBelow m (along f xs ys)
   below-along d e each k =
       ⊎_elim
-      (λ (l : k < length xs). let is = getD-along f xs ys k d e (pos 0) same l in rw is (each k l))
+      (λ (l : k < length xs). let is = get_or-along f xs ys k d e (pos 0) same l in rw is (each k l))
       (λ (l : length xs ≤ k). past l)
       (cases_lt k (length xs))
     where

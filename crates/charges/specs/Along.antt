@@ -13,11 +13,11 @@ module _ {X Y Z : Type 0} (f : X → Y → Z) where
   length-along (x ∷ xs) [] e = absurd (omega arith)
   length-along (x ∷ xs) (y ∷ ys) e = ap suc (length-along xs ys (omega arith))
 
-  pub getD-along : (xs : List X) (ys : List Y) (k : ℕ) (d : X) (e : Y) (z : Z) → length xs ≡ length ys → k < length xs → slice_index_or (along f xs ys) k z ≡ f (slice_index_or xs k d) (slice_index_or ys k e)
-  getD-along [] ys k d e z same l = absurd (omega arith)
-  getD-along (x ∷ xs) [] k d e z same l = absurd (omega arith)
-  getD-along (x ∷ xs) (y ∷ ys) zero d e z same l = refl
-  getD-along (x ∷ xs) (y ∷ ys) (suc k) d e z same l = getD-along xs ys k d e z (omega arith) (omega arith)
+  pub get_or-along : (xs : List X) (ys : List Y) (k : ℕ) (d : X) (e : Y) (z : Z) → length xs ≡ length ys → k < length xs → slice_index_or (along f xs ys) k z ≡ f (slice_index_or xs k d) (slice_index_or ys k e)
+  get_or-along [] ys k d e z same l = absurd (omega arith)
+  get_or-along (x ∷ xs) [] k d e z same l = absurd (omega arith)
+  get_or-along (x ∷ xs) (y ∷ ys) zero d e z same l = refl
+  get_or-along (x ∷ xs) (y ∷ ys) (suc k) d e z same l = get_or-along xs ys k d e z (omega arith) (omega arith)
 
 pub sum_less : (xs ys : List ℤ) → length xs ≡ length ys → int_sum (along ◌-ℤ◌ xs ys) ≡ int_sum xs -ℤ int_sum ys
 sum_less [] [] e = refl

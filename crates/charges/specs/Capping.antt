@@ -12,7 +12,7 @@ use Rattle.division.specs.Shares.{total, int_sum}
 use Rattle.division.proofs.Totals.{int_sum-cons}
 use Rattle.division.proofs.Rules.{sum-without-weight}
 use Rattle.charges.specs.Burdens.{along, positive, of_capped, of_uncapped, excess, headroom, benefit, all_excess, all_headroom, payments_within, payments_beyond, payments, mitigations, adjusted, finals, transitions}
-use Rattle.charges.specs.Along.{length-along, getD-along, sum_less, magnitudes-total}
+use Rattle.charges.specs.Along.{length-along, get_or-along, sum_less, magnitudes-total}
 use Rattle.charges.specs.Parts.{length-added, get_or-added, sum_added}
 
 -- an owner's figures: none is negative, and the burden is the cap and the excess less the headroom and the benefit
@@ -108,7 +108,7 @@ none-capped (c ∷ caps) (a ∷ ys) e z =
 each-along : (f : ℕ → ℤ → ℤ) → ((cap : ℕ) (b : ℤ) → pos 0 ≤ℤ f cap b) → (caps : List ℕ) (bs : List ℤ) → length caps ≡ length bs → (k : ℕ) → k < length (along f caps bs) → pos 0 ≤ℤ slice_index_or (along f caps bs) k (pos 0)
 each-along f each caps bs e k l =
     let lt : k < length caps = omega (arith, length-along f caps bs e) in
-    let is = getD-along f caps bs k 0 (pos 0) (pos 0) e lt in
+    let is = get_or-along f caps bs k 0 (pos 0) (pos 0) e lt in
     rw is (each (slice_index caps k) (slice_index_or bs k (pos 0)))
 
 module _ (rule : ℤ → List ℕ → List ℤ) (laws : Divides rule) (caps : List ℕ) (bs : List ℤ) (same : length caps ≡ length bs) where
@@ -206,12 +206,12 @@ module _ (rule : ℤ → List ℕ → List ℤ) (laws : Divides rule) (caps : Li
       burden = slice_index_or bs k (pos 0)
 
       headroom-at : get_or (along headroom caps bs) k (pos 0) ≡ headroom cap burden
-      headroom-at = getD-along headroom caps bs k 0 (pos 0) (pos 0) same l
+      headroom-at = get_or-along headroom caps bs k 0 (pos 0) (pos 0) same l
 
       weight-at : (f : ℕ → ℤ → ℤ) → pos 0 ≤ℤ f cap burden → pos (slice_index (map unsigned_abs (along f caps bs)) k) ≡ f cap burden
       weight-at f h =
           let m = get_or-map unsigned_abs (along f caps bs) k (pos 0) 0 (omega (arith, length-along f caps bs same)) in
-          let a = getD-along f caps bs k 0 (pos 0) (pos 0) same l in
+          let a = get_or-along f caps bs k 0 (pos 0) (pos 0) same l in
           rw (m, a) (omega (arith, ints))
 
       -- no owner pays more than its headroom, or its benefit if it is uncapped
@@ -239,8 +239,8 @@ module _ (rule : ℤ → List ℕ → List ℤ) (laws : Divides rule) (caps : Li
       unfolding adjusted mitigations
       adjusted-at =
           let s = get_or-added bs (along ◌-ℤ◌ (payments rule caps bs) (along excess caps bs)) k (sym same ∙ sym mitigations-long) in
-          let m = getD-along ◌-ℤ◌ (payments rule caps bs) (along excess caps bs) k (pos 0) (pos 0) (pos 0) (payments-long ∙ sym excesses-long) (omega (arith, payments-long)) in
-          let x = getD-along excess caps bs k 0 (pos 0) (pos 0) same l in
+          let m = get_or-along ◌-ℤ◌ (payments rule caps bs) (along excess caps bs) k (pos 0) (pos 0) (pos 0) (payments-long ∙ sym excesses-long) (omega (arith, payments-long)) in
+          let x = get_or-along excess caps bs k 0 (pos 0) (pos 0) same l in
           s ∙ ap (λ z. burden +ℤ z) (m ∙ ap (λ z. slice_index_or (payments rule caps bs) k (pos 0) -ℤ z) x)
 
       -- so no adjusted burden passes the cap
@@ -254,35 +254,35 @@ module _ (rule : ℤ → List ℕ → List ℤ) (laws : Divides rule) (caps : Li
         let m = sum_less (payments rule caps bs) (along excess caps bs) (payments-long ∙ sym excesses-long) in
         omega (arith, ints, s, m, payments-sum)
 
-    abbrev cappedSum : ℤ
-    cappedSum = int_sum (along of_capped caps (adjusted rule caps bs))
+    abbrev capped_sum : ℤ
+    capped_sum = int_sum (along of_capped caps (adjusted rule caps bs))
 
-    capped-within-caps : cappedSum ≤ℤ pos (total caps)
+    capped-within-caps : capped_sum ≤ℤ pos (total caps)
     capped-within-caps = capped-sum caps (adjusted rule caps bs) (sym adjusted-long) adjusted-bound
 
     -- no final burden passes its cap, or 0 for an uncapped owner
     pub finals-within-caps : (k : ℕ) → k < length caps → slice_index_or (finals rule caps bs) k (pos 0) ≤ℤ pos (slice_index caps k)
     unfolding finals
     finals-within-caps k l =
-        let p = laws.no_share_passes_its_weight cappedSum caps capped-within-caps k l in
-        let u = getD-along of_uncapped caps (adjusted rule caps bs) k 0 (pos 0) (pos 0) (sym adjusted-long) l in
+        let p = laws.no_share_passes_its_weight capped_sum caps capped-within-caps k l in
+        let u = get_or-along of_uncapped caps (adjusted rule caps bs) k 0 (pos 0) (pos 0) (sym adjusted-long) l in
         let w = uncapped-within (slice_index caps k) (slice_index_or (adjusted rule caps bs) k (pos 0)) (adjusted-bound k l) in
-        let s = get_or-added (rule cappedSum caps) (along of_uncapped caps (adjusted rule caps bs)) k (laws.as_many_shares cappedSum caps ∙ sym again-long) in
+        let s = get_or-added (rule capped_sum caps) (along of_uncapped caps (adjusted rule caps bs)) k (laws.as_many_shares capped_sum caps ∙ sym again-long) in
         rw (s, u) (omega (arith, ints))
 
-    again-sum : int_sum (rule cappedSum caps) ≡ cappedSum
+    again-sum : int_sum (rule capped_sum caps) ≡ capped_sum
     again-sum =
         ⊎_elim
-        (λ l. laws.shares_add_up cappedSum caps l)
+        (λ l. laws.shares_add_up capped_sum caps l)
         (λ l.
         let z : total caps ≡ 0 = omega arith in
-        sum-without-weight rule laws cappedSum caps z ∙ sym (none-capped caps (adjusted rule caps bs) (sym adjusted-long) z))
+        sum-without-weight rule laws capped_sum caps z ∙ sym (none-capped caps (adjusted rule caps bs) (sym adjusted-long) z))
         (cases_lt 0 (total caps))
 
     pub finals-sum : int_sum (finals rule caps bs) ≡ pos 0
     unfolding finals
     finals-sum =
-        let s = sum_added (rule cappedSum caps) (along of_uncapped caps (adjusted rule caps bs)) (laws.as_many_shares cappedSum caps ∙ sym again-long) in
+        let s = sum_added (rule capped_sum caps) (along of_uncapped caps (adjusted rule caps bs)) (laws.as_many_shares capped_sum caps ∙ sym again-long) in
         let p = all-parted caps (adjusted rule caps bs) (sym adjusted-long) in
         omega (arith, ints, s, p, again-sum, adjusted-sum)
 

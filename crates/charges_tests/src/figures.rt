@@ -1,6 +1,7 @@
 // Parts and bills.
 use crate::helpers::*;
 use charges::{Hybrid, OwnerRow, Volumetric};
+use std::test::Fail;
 
 // The worked month.
 fn worked() -> [OwnerRow; 3] {

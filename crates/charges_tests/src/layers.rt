@@ -2,6 +2,7 @@
 use crate::helpers::*;
 use charges::{Charge, ChargeFault, Hybrid, OwnerRow, Table, Transition, Volumetric};
 use std::process::Abort;
+use std::test::Fail;
 
 // The worked month.
 fn worked() -> [OwnerRow; 3] {

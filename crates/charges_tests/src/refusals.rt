@@ -1,6 +1,7 @@
 // Each refusal of a charge, just within its limit and just outside.
 use crate::helpers::*;
 use charges::{Hybrid, Volumetric};
+use std::test::Fail;
 
 #[test]
 fn settings(rt: HostRuntime) {

@@ -1,6 +1,7 @@
 // Making a table, at each limit and past it.
 use crate::helpers::*;
 use charges::{OwnerRow, Table, TableFault};
+use std::test::Fail;
 
 fn fault(rows: &[OwnerRow]) -> Option<TableFault> {
     match Table::new(rows) {

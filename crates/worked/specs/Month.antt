@@ -8,7 +8,7 @@ use Rattle.charges.specs.Transition.{burdens, final_burdens, transition_charges,
 use Rattle.charges.specs.Volumetric.{volumetric}
 use Rattle.rolls.specs.Records.{encoded}
 use Rattle.rolls.specs.Rows.{row_of}
-use Rattle.book.specs.Answers.{netsAnswer}
+use Rattle.book.specs.Answers.{nets_answer}
 use Rattle.book.specs.Histories.{Request, files, reads, opens, posts, asks, Grant, entered, drew, posted, stands, Event, event_of, afresh}
 use Rattle.book.specs.Laws.{Answered}
 use Rattle.book.specs.Postings.{posting, lines_of}
@@ -70,7 +70,7 @@ pub record WorkedMonth : Type 0 where
   pub level_stops : (number place month : ℕ) → transition 8 roomy_caps (λ _ _. refused number place 250) month table ≡ refused number place 250
   -- the six entries make the month's table, and its nets
   pub table_in_force : rows_from 14 six_entries 0 (0 ∷ 1 ∷ 1 ∷ []) ≡ table
-  pub nets_at_six : netsAnswer (worked_out (volumetric 8) (0 ∷ 1 ∷ 1 ∷ []) 14 six_entries) ≡ Ok (pos 278 ∷ minus 1793 ∷ pos 1515 ∷ [])
+  pub nets_at_six : nets_answer (worked_out (volumetric 8) (0 ∷ 1 ∷ 1 ∷ []) 14 six_entries) ≡ Ok (pos 278 ∷ minus 1793 ∷ pos 1515 ∷ [])
   -- the lines of the first bills, and of the correction
   pub first_lines : lines_of 14 6 first_bills ≡ row_of 14 0 6 (pos 278) ∷ row_of 14 1 6 (minus 1793) ∷ row_of 14 2 6 (pos 1515) ∷ []
   pub correcting_lines : lines_of 14 7 correction ≡ row_of 14 0 7 (minus 784) ∷ row_of 14 1 7 (pos 1471) ∷ row_of 14 2 7 (minus 687) ∷ []

@@ -1,6 +1,6 @@
 use Rattle.std.proofs.Common.{◌≡◌, ◌+◌, ◌≤◌, length, sym, refl, ap, ◌∙◌, arith}
 use Rattle.std.proofs.lemmas.List.{length-take-le}
-use Rattle.book.specs.Answers.{netsIn}
+use Rattle.book.specs.Answers.{nets_in}
 use Rattle.book.specs.Workings.{less}
 use Rattle.book.proofs.Differences.{length-less}
 use Rattle.book.proofs.Posted.{lines_more, lines-all, cents-long, difference-fits, difference-is, difference-small}
@@ -25,7 +25,7 @@ loop-i-preserved g c =
     let n = c.args.nets.now in
     let b = c.args.before.now in
     let i = c.loop-i.i in (
-      lines_more _ _ _ c.args.month c.args.mark i (less (netsIn n) (netsIn b)) _ (cents-long n b i c.loop-i-test.true c.requires.many) (difference-is n b i c.loop-i-test.true c.requires.many c.requires.small.0 c.requires.small.1) c.add_line.ensures.lines c.loop-i.invariant.0,
+      lines_more _ _ _ c.args.month c.args.mark i (less (nets_in n) (nets_in b)) _ (cents-long n b i c.loop-i-test.true c.requires.many) (difference-is n b i c.loop-i-test.true c.requires.many c.requires.small.0 c.requires.small.1) c.add_line.ensures.lines c.loop-i.invariant.0,
       omega (arith, c.loop-i.invariant.1, c.add_line.ensures.spare),
     )
 
@@ -33,10 +33,10 @@ pub returns : goal.returns
 returns g c =
     let n = c.args.nets.now in
     let b = c.args.before.now in
-    let long : length (netsIn n) ≡ n.count = length-take-le n.count n.items n.fits in
-    let same : length (netsIn b) ≡ b.count = length-take-le b.count b.items b.fits in
+    let long : length (nets_in n) ≡ n.count = length-take-le n.count n.items n.fits in
+    let same : length (nets_in b) ≡ b.count = length-take-le b.count b.items b.fits in
     let whole : c.loop-i.i ≡ n.count = omega arith in
     record {
-      lines = lines-all _ _ c.args.month c.args.mark c.loop-i.i (less (netsIn n) (netsIn b)) (omega (arith, length-less (netsIn n) (netsIn b) (long ∙ sym c.requires.many ∙ sym same))) c.loop-i.invariant.0;
+      lines = lines-all _ _ c.args.month c.args.mark c.loop-i.i (less (nets_in n) (nets_in b)) (omega (arith, length-less (nets_in n) (nets_in b) (long ∙ sym c.requires.many ∙ sym same))) c.loop-i.invariant.0;
       spare = omega (arith, c.loop-i.invariant.1);
     }

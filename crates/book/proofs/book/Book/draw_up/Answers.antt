@@ -1,7 +1,7 @@
 use Rattle.std.proofs.Common.{◌≡◌, ℕ, ◌-◌, ◌≤◌, List, map, length, take, Ok, sym, refl, ap, ◌∙◌, arith, rules}
 use Rattle.std.proofs.lemmas.List.{length-take-le}
 use Rattle.std.proofs.lemmas.Result.{err_from_is_err_and}
-use Rattle.book.specs.Answers.{netsIn}
+use Rattle.book.specs.Answers.{nets_in}
 use Rattle.book.specs.Books.{areas_of, mark_of}
 use Rattle.book.specs.Calls.{count_of, entries_in}
 use Rattle.book.specs.Meaning.{noted}
@@ -49,6 +49,6 @@ returns g c =
     let areas : take (b.count - 0) b.areas ≡ areas_of b = ap (λ k. take k b.areas) whole in
     let due = rw (c.from-2.ensures, ents) at c.if-current.ensures in
     let value = rw (areas, ents) at c.in_ok-nets.ensures.value in
-    let both = open-worked (length (areas_of b)) (length c.args.draft.now) c.args.month (mark_of b c.args.month) (entries_in j) c.if-month-gt359.false (omega (arith, c.if-draft-self.false)) (sym due) (count_of j) _ (netsIn m) c.args.draft.now m.count value (length-take-le m.count m.items m.fits) in
+    let both = open-worked (length (areas_of b)) (length c.args.draft.now) c.args.month (mark_of b c.args.month) (entries_in j) c.if-month-gt359.false (omega (arith, c.if-draft-self.false)) (sym due) (count_of j) _ (nets_in m) c.args.draft.now m.count value (length-take-le m.count m.items m.fits) in
     let count = c.counted-count.ensures in
     record { answer = ap (λ k. Ok (c.args.month, k)) count ∙ both.0; draft = c.write.ensures ∙ both.1; owed = refl }

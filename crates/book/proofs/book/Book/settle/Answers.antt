@@ -1,7 +1,7 @@
 use Rattle.std.proofs.Common.{◌≡◌, ℕ, ◌<◌, ◌≤◌, true, false, List, length, get_or, take, set, ℤ, Some, None, Ok, Err, Result, sym, refl, ap, ◌∙◌, append-nil, arith, rules}
 use Rattle.std.proofs.lemmas.List.{length-take-le}
 use Rattle.std.proofs.lemmas.Result.{err_from_is_err_and}
-use Rattle.book.specs.Answers.{netsIn}
+use Rattle.book.specs.Answers.{nets_in}
 use Rattle.book.specs.Books.{areas_of, mark_of}
 use Rattle.book.specs.Calls.{count_of, entries_in}
 use Rattle.book.specs.Faults.{refusal}
@@ -51,7 +51,7 @@ returns-in_err-before g c =
     let due = rw (c.first_entries-entries.ensures, c.from.ensures) at c.if-current.ensures in
     let f = refusal c.in_err-before.field-0.0 in
     let e : ◌≡◌ {A = Result (List ℤ) Refusal} (posting_in meaning b j month n (g.R.Roll.spare c.args.roll.now)) (Err f) =
-    old-denied (λ k. worked_out meaning (areas_of b) month (take k (entries_in j))) (length (areas_of b)) (count_of j) n month (mark_of b month) (entries_in j) (g.R.Roll.spare c.args.roll.now) low (sym due) (netsIn c.in_ok-nets.nets) f (sym c.in_ok-nets.ensures.value) (sym c.in_err-before.ensures.value) in
+    old-denied (λ k. worked_out meaning (areas_of b) month (take k (entries_in j))) (length (areas_of b)) (count_of j) n month (mark_of b month) (entries_in j) (g.R.Roll.spare c.args.roll.now) low (sym due) (nets_in c.in_ok-nets.nets) f (sym c.in_ok-nets.ensures.value) (sym c.in_err-before.ensures.value) in
     rw (p.1, p.2, e) (record { answer = refl; lines = sym (append-nil _); spare = omega arith; book = record { areas = refl; charge = refl; marks = mark-kept b.marks month }; balanced = tt })
 
 pub returns-then-free-self : goal.returns-then-free-self
@@ -66,7 +66,7 @@ returns-then-free-self g c =
     let due = rw (c.first_entries-entries.ensures, c.from.ensures) at c.if-current.ensures in
     let full : g.R.Roll.spare c.args.roll.now < length (areas_of b) = omega (arith, owners, c.if-free-self.true, c.free.ensures.free) in
     let e : ◌≡◌ {A = Result (List ℤ) Refusal} (posting_in meaning b j month n (g.R.Roll.spare c.args.roll.now)) (Err (plain 18)) =
-    short (λ k. worked_out meaning (areas_of b) month (take k (entries_in j))) (length (areas_of b)) (count_of j) n month (mark_of b month) (entries_in j) (g.R.Roll.spare c.args.roll.now) low (sym due) (netsIn c.in_ok-nets.nets) (netsIn c.in_ok-before.before) (sym c.in_ok-nets.ensures.value) (sym c.in_ok-before.ensures.value) full in
+    short (λ k. worked_out meaning (areas_of b) month (take k (entries_in j))) (length (areas_of b)) (count_of j) n month (mark_of b month) (entries_in j) (g.R.Roll.spare c.args.roll.now) low (sym due) (nets_in c.in_ok-nets.nets) (nets_in c.in_ok-before.before) (sym c.in_ok-nets.ensures.value) (sym c.in_ok-before.ensures.value) full in
     rw e (record { answer = refl; lines = sym (append-nil _); spare = omega arith; book = record { areas = refl; charge = refl; marks = mark-kept b.marks month }; balanced = tt })
 
 pub returns : goal.returns
@@ -82,17 +82,17 @@ returns g c =
     let low : n ≤ count_of j = omega (arith, c.if-count-counted.false, c.counted.ensures) in
     let due = rw (c.first_entries-entries.ensures, c.from.ensures) at c.if-current.ensures in
     let room : length (areas_of b) ≤ g.R.Roll.spare c.args.roll.now = omega (arith, owners, c.if-free-self.false, c.free.ensures.free) in
-    let e : ◌≡◌ {A = Result (List ℤ) Refusal} (posting_in meaning b j month n (g.R.Roll.spare c.args.roll.now)) (Ok (less (netsIn new) (netsIn old))) =
-    granted (λ k. worked_out meaning (areas_of b) month (take k (entries_in j))) (length (areas_of b)) (count_of j) n month (mark_of b month) (entries_in j) (g.R.Roll.spare c.args.roll.now) low (sym due) (netsIn new) (netsIn old) (sym c.in_ok-nets.ensures.value) (sym c.in_ok-before.ensures.value) room in
-    let long : length (netsIn new) ≡ new.count = length-take-le new.count new.items new.fits in
-    let as_long : length (netsIn old) ≡ old.count = length-take-le old.count old.items old.fits in
-    let same : length (netsIn new) ≡ length (netsIn old) = omega (arith, long, as_long, c.in_ok-nets.ensures.many, c.in_ok-before.ensures.many) in
+    let e : ◌≡◌ {A = Result (List ℤ) Refusal} (posting_in meaning b j month n (g.R.Roll.spare c.args.roll.now)) (Ok (less (nets_in new) (nets_in old))) =
+    granted (λ k. worked_out meaning (areas_of b) month (take k (entries_in j))) (length (areas_of b)) (count_of j) n month (mark_of b month) (entries_in j) (g.R.Roll.spare c.args.roll.now) low (sym due) (nets_in new) (nets_in old) (sym c.in_ok-nets.ensures.value) (sym c.in_ok-before.ensures.value) room in
+    let long : length (nets_in new) ≡ new.count = length-take-le new.count new.items new.fits in
+    let as_long : length (nets_in old) ≡ old.count = length-take-le old.count old.items old.fits in
+    let same : length (nets_in new) ≡ length (nets_in old) = omega (arith, long, as_long, c.in_ok-nets.ensures.many, c.in_ok-before.ensures.many) in
     let within : c.from-2.result < length b.marks = search rules in
     let same-month : c.from-2.result ≡ month = c.from-2.ensures in
     rw e (record {
       answer = refl;
       lines = c.add_lines.ensures.lines;
-      spare = omega (arith, c.add_lines.ensures.spare, lines_long month n 0 (less (netsIn new) (netsIn old)), length-less (netsIn new) (netsIn old) same, long);
+      spare = omega (arith, c.add_lines.ensures.spare, lines_long month n 0 (less (nets_in new) (nets_in old)), length-less (nets_in new) (nets_in old) same, long);
       book = record { areas = refl; charge = refl; marks = λ m. ap (λ k. get_or (set b.marks k (Some n)) m None) same-month ∙ mark_set b.marks month n m (omega (arith, within, same-month)) };
       balanced = c.in_ok-nets.ensures.balanced;
     })
