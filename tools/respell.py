@@ -12,7 +12,7 @@ import sys
 
 TOKEN = re.compile(r"[A-Za-z_][A-Za-z0-9_'\-₀-₉]*")
 KNOWN = {"sumZ": "int_sum", "getD": "get_or", "natAbs": "unsigned_abs"}
-DECLARED = re.compile(r"^(\s*)(abbrev pub |abbrev |unfoldable pub |unfoldable |pub )?(data |record )?([^\s:(){}«»,]+)((?: \([^)]*\)| \{[^}]*\})*) :(?: |$)")
+DECLARED = re.compile(r"^(\s*)(abbrev pub |abbrev |unfoldable pub |unfoldable |pub )?([^\s:(){}«»,]+)((?: \([^)]*\)| \{[^}]*\})*) :(?: |$)")
 
 
 def snake(word):
@@ -36,13 +36,13 @@ def main():
         for line in open(path, encoding="utf-8"):
             if line[:1].strip():
                 is_inside = False
+            if re.match(r"\s*(pub )?(data|record) ", line):
+                is_inside = True
+                continue
             m = DECLARED.match(line)
             if not m:
                 continue
-            indent, mark, kind, name = m.group(1), (m.group(2) or "").strip(), m.group(3), m.group(4)
-            if kind:
-                is_inside = True
-                continue
+            indent, mark, name = m.group(1), (m.group(2) or "").strip(), m.group(3)
             if indent and not is_inside and not mark:
                 continue
             is_lemma = (not indent or not is_inside) and mark in ("", "pub")
@@ -63,7 +63,7 @@ def main():
             print(f"falls together: {old} and {new}", file=sys.stderr)
     for path, text in texts.items():
         # `.sum-is` and its like are the check's own names of steps
-        new = TOKEN.sub(lambda m: m.group(0) if text[:m.start()].endswith(".") and m.group(0).endswith("-is") else changed.get(m.group(0), m.group(0)), text)
+        new = TOKEN.sub(lambda m: m.group(0) if path.endswith("/Answers.antt") and text[:m.start()].endswith(".") and m.group(0).endswith("-is") else changed.get(m.group(0), m.group(0)), text)
         if new != text:
             open(path, "w", encoding="utf-8").write(new)
     print(f"{len(changed)} names respelled")

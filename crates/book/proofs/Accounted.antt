@@ -1,5 +1,5 @@
 -- What a history with one event more accounts for.
-use Rattle.std.proofs.Common.{◌≡◌, ℕ, zero, suc, ◌+◌, ◌-◌, ◌*◌, ◌<◌, ◌≤◌, Bool, true, false, cond, eqb, ltb, ◌⊎◌, List, [], ◌∷◌, ◌++◌, map, length, get_or, take, replicate, ℤ, pos, ◌+ℤ◌, ◌-ℤ◌, Some, None, Ok, Err, Option, Result, sym, refl, ap, ◌∙◌, subst, inl, inr, append-nil, arith, length-append}
+use Rattle.std.proofs.Common.{◌≡◌, ℕ, zero, suc, ◌+◌, ◌*◌, ◌≤◌, Bool, true, false, cond, eqb, ltb, ◌⊎◌, List, [], ◌∷◌, ◌++◌, length, get_or, take, replicate, ℤ, pos, Some, None, Ok, Err, Option, Result, sym, refl, ap, ◌∙◌, subst, inl, inr, append-nil, arith, length-append}
 use lib.ListN.{length-replicate}
 use Rattle.std.proofs.lemmas.List.{take-append-le}
 use Rattle.std.proofs.lemmas.Int.{ints}
@@ -11,8 +11,8 @@ use Rattle.rolls.specs.Summaries.{sum_of}
 use Rattle.charges.specs.Checks.{first_fault}
 use Rattle.book.specs.Answers.{nets_answer, granting}
 use Rattle.book.specs.Entries.{Noted, latest, or_else}
-use Rattle.book.specs.Histories.{Event, Terms, event_of, posts, posted, if_granted, entry_of, posting_of, answer_to, entries_by, postings_by, mark_for, mark_by, owners, afresh, free_by}
-use Rattle.book.specs.Laws.{Balanced, Settled, OnePosting, Rolled, Law, Accounts, in_order}
+use Rattle.book.specs.Histories.{Event, Terms, event_of, posts, posted, withdraws, withdrawn, if_granted, entry_of, posting_of, answer_to, entries_by, postings_by, mark_for, mark_by, owners, afresh, free_by}
+use Rattle.book.specs.Laws.{Balanced, Settled, OnePosting, Rolled, Accounts, in_order}
 use Rattle.book.specs.Postings.{nets_before, post_checks, cents_of, posting, lines_from}
 use Rattle.book.specs.States.{is_current}
 use Rattle.book.specs.Workings.{Refusal, plain, Figures, Working, denied, worked, less}
@@ -80,7 +80,7 @@ module _ (t : Terms) (h : List Event) (marks : List (Option ℕ)) (entries : Lis
     mark-after month = ap (latest (mark_for month)) postings-after
 
     below-after : (month mark : ℕ) → mark_by month after ≡ Some mark → mark ≤ length (entries_by h)
-    below-after month mark m = a.marks-below month mark (sym (mark-after month) ∙ m)
+    below-after month mark m = a.marks_below month mark (sym (mark-after month) ∙ m)
 
     settled-after : (month mark : ℕ) → mark_by month after ≡ Some mark → Settled t (entries_by after) rows month mark
     settled-after month mark m =
@@ -100,13 +100,13 @@ module _ (t : Terms) (h : List Event) (marks : List (Option ℕ)) (entries : Lis
             lines_add_up_to_the_net = settled-after;
             each_posting_adds_one_line_an_owner = subst (λ ps. Rolled (owners t) ps rows) (sym postings-after) a.law.each_posting_adds_one_line_an_owner;
           };
-          marks-are = λ month. a.marks-are month ∙ sym (mark-after month);
-          marks-below = λ month mark m. omega (arith, long, below-after month mark m);
-          entries-few = omega (arith, ap length all);
-          room-is = a.room-is;
-          free-are = omega (arith, a.free-are, posted-long);
+          marks_are = λ month. a.marks_are month ∙ sym (mark-after month);
+          marks_below = λ month mark m. omega (arith, long, below-after month mark m);
+          entries_few = omega (arith, ap length all);
+          room_is = a.room_is;
+          free_are = omega (arith, a.free_are, posted-long);
           rows_are = omega (arith, a.rows_are, posted-long);
-          unsettled-nothing = λ month owner m. a.unsettled-nothing month owner (sym (mark-after month) ∙ m);
+          unsettled_nothing = λ month owner m. a.unsettled_nothing month owner (sym (mark-after month) ∙ m);
         }
 
   -- a posting that is granted
@@ -141,7 +141,7 @@ module _ (t : Terms) (h : List Event) (marks : List (Option ℕ)) (entries : Lis
         by : (o : Option ℕ) → mark_by month h ≡ o → ◌≡◌ {A = Result (List ℤ) Refusal} (nets_before (afresh t (entries_by h) month) (owners t) o) (Ok billed.old) → Before billed.old
         by None m e =
             let same : replicate (owners t) (pos 0) ≡ billed.old = cc in
-            subst Before same (record { many = length-replicate (owners t) (pos 0); cancel = sum_zeros (owners t); sums = λ owner. a.unsettled-nothing month owner m ∙ sym (get_or-zeros (owners t) owner) })
+            subst Before same (record { many = length-replicate (owners t) (pos 0); cancel = sum_zeros (owners t); sums = λ owner. a.unsettled_nothing month owner m ∙ sym (get_or-zeros (owners t) owner) })
         by (Some mark) m e =
             let s = a.law.lines_add_up_to_the_net month mark m in
             let same : s.figures.nets ≡ billed.old = let k = rw s.worked_afresh at e in cc in
@@ -206,14 +206,14 @@ module _ (t : Terms) (h : List Event) (marks : List (Option ℕ)) (entries : Lis
         by (inl same) =
             let at : n ≡ mark = let k = sym mark_here ∙ ap (λ x. mark_by x next) same ∙ is in cc in
             omega (arith, at, billed.within, ap length entries_next)
-        by (inr other) = omega (arith, a.marks-below m mark (sym (mark_elsewhere m other) ∙ is), ap length entries_next)
+        by (inr other) = omega (arith, a.marks_below m mark (sym (mark_elsewhere m other) ∙ is), ap length entries_next)
 
     nothing_next : (m owner : ℕ) → mark_by m next ≡ None → sum_of m owner (rows ++ new_rows) ≡ pos 0
     nothing_next m owner is = by (cases_eq month m)
       where
         by : (month ≡ m) ⊎ (month ≡ m → ⊥) → sum_of m owner (rows ++ new_rows) ≡ pos 0
         by (inl same) = let k = sym mark_here ∙ ap (λ x. mark_by x next) same ∙ is in let z : ◌≡◌ {A = ℕ} 0 1 = cc in absurd (omega arith)
-        by (inr other) = sums_elsewhere m owner other ∙ a.unsettled-nothing m owner (sym (mark_elsewhere m other) ∙ is)
+        by (inr other) = sums_elsewhere m owner other ∙ a.unsettled_nothing m owner (sym (mark_elsewhere m other) ∙ is)
 
     one : OnePosting (owners t) month n new_rows
     one =
@@ -235,15 +235,21 @@ module _ (t : Terms) (h : List Event) (marks : List (Option ℕ)) (entries : Lis
             lines_add_up_to_the_net = settled_next;
             each_posting_adds_one_line_an_owner = subst (λ ps. Rolled (owners t) ps (rows ++ new_rows)) (sym postings_next) (rolled-more (owners t) (postings_by h) rows month n new_rows a.law.each_posting_adds_one_line_an_owner a.rows_are one long);
           };
-          marks-are = λ m. marks_next m (cases_eq month m);
-          marks-below = below_next;
-          entries-few = omega (arith, ap length entries_next, a.entries-few);
-          room-is = a.room-is;
-          free-are = omega (arith, times, uses, long, a.free-are);
+          marks_are = λ m. marks_next m (cases_eq month m);
+          marks_below = below_next;
+          entries_few = omega (arith, ap length entries_next, a.entries_few);
+          room_is = a.room_is;
+          free_are = omega (arith, times, uses, long, a.free_are);
           rows_are = omega (arith, times, long, a.rows_are, length-append rows new_rows);
-          unsettled-nothing = nothing_next;
+          unsettled_nothing = nothing_next;
         }
       where
         marks_next : (m : ℕ) → (month ≡ m) ⊎ (month ≡ m → ⊥) → get_or after m None ≡ mark_by m next
         marks_next m (inl same) = set m ∙ ap (λ b. cond b (Some n) (get_or marks m None)) (eq-eqb m month (sym same)) ∙ sym mark_here ∙ ap (λ x. mark_by x next) same
-        marks_next m (inr other) = set m ∙ ap (λ b. cond b (Some n) (get_or marks m None)) (ne_eqb m month (λ (p : m ≡ month). other (sym p))) ∙ a.marks-are m ∙ sym (mark_elsewhere m other)
+        marks_next m (inr other) = set m ∙ ap (λ b. cond b (Some n) (get_or marks m None)) (ne_eqb m month (λ (p : m ≡ month). other (sym p))) ∙ a.marks_are m ∙ sym (mark_elsewhere m other)
+
+-- a withdrawal changes nothing
+pub withdrawn_on : (t : Terms) (h : List Event) (marks : List (Option ℕ)) (entries : List Noted) (room : ℕ) (rows : List Row) (free month n : ℕ) → Accounts t h marks entries room rows free
+    → Accounts t (h ++ event_of (withdraws month n) (Ok withdrawn) ∷ []) marks entries room rows free
+withdrawn_on t h marks entries room rows free month n a =
+    grown t h marks entries room rows free a (event_of (withdraws month n) (Ok withdrawn)) refl [] refl refl entries (sym (append-nil entries)) (omega (arith, ap length a.law.journal_holds_the_entries, a.entries_few))

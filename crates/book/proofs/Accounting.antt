@@ -1,5 +1,5 @@
 -- What a book, its journal and a roll account for after each call.
-use Rattle.std.proofs.Common.{◌≡◌, ℕ, ◌+◌, ◌-◌, ◌*◌, ◌<◌, ◌≤◌, min, Bool, true, false, cond, ◌||◌, eqb, leb, List, [], ◌∷◌, ◌++◌, map, length, get_or, take, drop, ℤ, IfOk, Some, None, Ok, Err, vec_items, vec_len, vec_capacity, Option, Result, Vec, sym, refl, ap, ◌∙◌, subst, append_assoc, append-nil, arith, length-append}
+use Rattle.std.proofs.Common.{◌≡◌, ℕ, ◌+◌, ◌<◌, ◌≤◌, Bool, true, false, cond, eqb, List, [], ◌∷◌, ◌++◌, map, length, get_or, take, drop, ℤ, IfOk, Some, None, Ok, Err, vec_items, vec_len, vec_capacity, Option, Result, Vec, sym, refl, ap, ◌∙◌, subst, append_assoc, append-nil, arith}
 use mathlib.Core.List.{append_cancel_left}
 use Rattle.std.proofs.lemmas.List.{take_all, drop_at, length-map, length_push}
 use Rattle.std.proofs.lemmas.Bool.{or_parts, leb-false, eqb-true}
@@ -12,22 +12,22 @@ use Rattle.book.specs.Accounts.{Account}
 use Rattle.book.specs.Answers.{told, fault_of, granting}
 use Rattle.book.specs.Books.{areas_of, mark_of, Marked}
 use Rattle.book.specs.Calls.{count_of, entries_in, open_checks, worked_after, opening_of, opened, drafted}
-use Rattle.book.specs.Checks.{answered, verdict, full, filing_checks, reading_checks, outside_filing}
+use Rattle.book.specs.Checks.{answered, verdict, full, filing_checks, reading_checks}
 use Rattle.book.specs.Entries.{Filed, Metered, Noted, filed, metered}
 use Rattle.book.specs.Faults.{refusal}
-use Rattle.book.specs.Histories.{Request, Grant, Event, Terms, event_of, files, reads, opens, posts, withdraws, asks, entered, drew, posted, withdrawn, stands, entries_by, postings_by, mark_by, owners, afresh, free_by, draws, answer_to, if_granted, entry_of, posting_of}
+use Rattle.book.specs.Histories.{Request, Grant, Event, Terms, event_of, files, reads, opens, posts, withdraws, asks, entered, drew, posted, withdrawn, stands, entries_by, mark_by, owners, afresh, free_by, draws, answer_to, if_granted, entry_of, posting_of}
 use Rattle.book.specs.Journals.{entries_of, Enters}
-use Rattle.book.specs.Laws.{Balanced, Law, Accounts}
+use Rattle.book.specs.Laws.{Balanced, Accounts}
 use Rattle.book.specs.Meaning.{noted}
 use Rattle.book.specs.Postings.{posting, posting_in, lines_of, mark_after}
-use Rattle.book.specs.States.{MonthState, state_of, state_checks, state_as}
+use Rattle.book.specs.States.{state_of, state_checks, state_as}
 use Rattle.book.specs.Workings.{Refusal, plain, Figures, Working, denied, worked, worked_out}
 use Rattle.book.specs.declared.book.Book.{Book}
 use Rattle.book.specs.declared.call.State.{State}
 use Rattle.book.specs.declared.entry.Entry.{Entry}
 use Rattle.book.specs.declared.fault.BookFault.{BookFault}
 use Rattle.book.specs.declared.opening.Opening.{Opening}
-use Rattle.book.proofs.Accounted.{grown, posted_on}
+use Rattle.book.proofs.Accounted.{grown, posted_on, withdrawn_on}
 use Rattle.book.proofs.Balancing.{last-pass, passed}
 
 told-granting : {X Y : Type 0} (answer : X → Y) (r : Result X BookFault) → told answer r ≡ granting answer (told (λ x. x) r)
@@ -58,7 +58,7 @@ module _ {C : Type 0} (meaning : ℕ → List OwnerRow → Outcome) (t : Terms) 
   long = j.ok.0 ∙ sym (length-map (vec_items j) noted) ∙ ap length held
 
   few : vec_len j ≤ 8192
-  few = omega (arith, long, a.accounts.entries-few)
+  few = omega (arith, long, a.accounts.entries_few)
 
   owners-are : length (areas_of book) ≡ owners t
   owners-are = ap length a.areas_are
@@ -70,16 +70,16 @@ module _ {C : Type 0} (meaning : ℕ → List OwnerRow → Outcome) (t : Terms) 
   entries-in = ap (map noted) (take_all (count_of j) (vec_items j) (omega (arith, j.ok.0, few))) ∙ held
 
   mark-is : (month : ℕ) → mark_of book month ≡ mark_by month h
-  mark-is month = a.accounts.marks-are month
+  mark-is month = a.accounts.marks_are month
 
   -- one entry more, or none
   filed-is : (f : Filed) (r : Result ℕ BookFault) → told (λ i. i) r ≡ verdict (vec_len j) (filing_checks (length (areas_of book)) (vec_len j) (vec_capacity j) f) → told entered r ≡ answer_to t h (files f)
   filed-is f r is =
-      told-granting entered r ∙ ap (granting entered) (is ∙ ap (λ n. verdict n (filing_checks (length (areas_of book)) n (vec_capacity j) f)) long ∙ ap (λ k. verdict (length (entries_by h)) (filing_checks k (length (entries_by h)) (vec_capacity j) f)) owners-are ∙ ap (λ k. verdict (length (entries_by h)) (filing_checks (owners t) (length (entries_by h)) k f)) a.accounts.room-is)
+      told-granting entered r ∙ ap (granting entered) (is ∙ ap (λ n. verdict n (filing_checks (length (areas_of book)) n (vec_capacity j) f)) long ∙ ap (λ k. verdict (length (entries_by h)) (filing_checks k (length (entries_by h)) (vec_capacity j) f)) owners-are ∙ ap (λ k. verdict (length (entries_by h)) (filing_checks (owners t) (length (entries_by h)) k f)) a.accounts.room_is)
 
   read_is : (m : Metered) (r : Result ℕ BookFault) → told (λ i. i) r ≡ verdict (vec_len j) (reading_checks (length (areas_of book)) (vec_len j) (vec_capacity j) m) → told entered r ≡ answer_to t h (reads m)
   read_is m r is =
-      told-granting entered r ∙ ap (granting entered) (is ∙ ap (λ n. verdict n (reading_checks (length (areas_of book)) n (vec_capacity j) m)) long ∙ ap (λ k. verdict (length (entries_by h)) (reading_checks k (length (entries_by h)) (vec_capacity j) m)) owners-are ∙ ap (λ k. verdict (length (entries_by h)) (reading_checks (owners t) (length (entries_by h)) k m)) a.accounts.room-is)
+      told-granting entered r ∙ ap (granting entered) (is ∙ ap (λ n. verdict n (reading_checks (length (areas_of book)) n (vec_capacity j) m)) long ∙ ap (λ k. verdict (length (entries_by h)) (reading_checks k (length (entries_by h)) (vec_capacity j) m)) owners-are ∙ ap (λ k. verdict (length (entries_by h)) (reading_checks (owners t) (length (entries_by h)) k m)) a.accounts.room_is)
 
   one_more : (j' : Vec Entry Global) (e : Noted) → vec_len j < 8192 → entries_of j' ≡ entries_of j ++ e ∷ [] → length (entries_of j') ≤ 8192
   one_more j' e room is = omega (arith, ap length is, length_push (entries_of j) e, j.ok.0, length-map (vec_items j) noted)
@@ -143,7 +143,7 @@ module _ {C : Type 0} (meaning : ℕ → List OwnerRow → Outcome) (t : Terms) 
 
   -- a posting as the history tells it
   free-is : free_by t h ≡ free
-  free-is = omega (arith, a.accounts.free-are)
+  free-is = omega (arith, a.accounts.free_are)
 
   same-posting : (month n : ℕ) → posting_in meaning book j month n free ≡ posting (afresh t (entries_by h) month) (owners t) (length (entries_by h)) n month (mark_by month h) (entries_by h) (free_by t h)
   same-posting month n =
@@ -162,7 +162,7 @@ module _ {C : Type 0} (meaning : ℕ → List OwnerRow → Outcome) (t : Terms) 
 -- marks that tell the same account for the same
 remarked : (t : Terms) (h : List Event) (marks after : List (Option ℕ)) (entries : List Noted) (room : ℕ) (rows : List Row) (free : ℕ) → ((m : ℕ) → get_or after m None ≡ get_or marks m None) → Accounts t h marks entries room rows free → Accounts t h after entries room rows free
 remarked t h marks after entries room rows free same a =
-    record { law = a.law; marks-are = λ m. same m ∙ a.marks-are m; marks-below = a.marks-below; entries-few = a.entries-few; room-is = a.room-is; free-are = a.free-are; rows_are = a.rows_are; unsettled-nothing = a.unsettled-nothing }
+    record { law = a.law; marks_are = λ m. same m ∙ a.marks_are m; marks_below = a.marks_below; entries_few = a.entries_few; room_is = a.room_is; free_are = a.free_are; rows_are = a.rows_are; unsettled_nothing = a.unsettled_nothing }
 
 mark-same : {C : Type 0} (b : Book C) (month m : ℕ) → cond (eqb m month) (mark_of b month) (mark_of b m) ≡ mark_of b m
 mark-same b month m = by (eqb m month) refl
@@ -193,7 +193,7 @@ module _ {C : Type 0} (meaning meaning' : ℕ → List OwnerRow → Outcome) (t 
       by (Err f) e (Ok u) ans lines left m balance = let z : ◌≡◌ {A = ℕ} 0 1 = cc in absurd (omega arith)
       by (Err f) e (Err b) ans lines left m balance =
           let rows_are : before ≡ after = append_cancel_left earlier before after (sym is ∙ sym (append-nil all) ∙ sym lines ∙ is') in
-          let free-are : free ≡ free' = omega (arith, left) in
+          let free_are : free ≡ free' = omega (arith, left) in
           let why : refusal b ≡ f = cc in
           let checks = ap Err why ∙ sym (ap (granting (λ xs. posted)) (sym (same-posting meaning t h book j before free a month n) ∙ e)) in
           let on = quiet meaning t h book j before free a (event_of (posts month n) (Err (refusal b))) checks refl refl in
@@ -202,7 +202,7 @@ module _ {C : Type 0} (meaning meaning' : ℕ → List OwnerRow → Outcome) (t 
           record {
             areas_are = m.areas ∙ a.areas_are;
             meaning_is = means ∙ a.meaning_is;
-            accounts = subst (λ rs. Accounts t next book'.marks (entries_of j) (vec_capacity j) rs free') rows_are (subst (λ k. Accounts t next book'.marks (entries_of j) (vec_capacity j) before k) free-are (remarked t next book.marks book'.marks (entries_of j) (vec_capacity j) before free same on.accounts));
+            accounts = subst (λ rs. Accounts t next book'.marks (entries_of j) (vec_capacity j) rs free') rows_are (subst (λ k. Accounts t next book'.marks (entries_of j) (vec_capacity j) before k) free_are (remarked t next book.marks book'.marks (entries_of j) (vec_capacity j) before free same on.accounts));
           }
 
 -- a new book accounts for no calls
@@ -210,18 +210,18 @@ pub begun : (areas : List ℕ) (meaning : ℕ → List OwnerRow → Outcome) (ma
     → Accounts (record { areas = areas; meaning = meaning; room = room; lines = free }) [] marks entries room [] free
 begun areas meaning marks entries room free unmarked empty =
     record {
-      law = record { journal_holds_the_entries = empty; answers_are_the_checks = tt; lines_add_up_to_the_net = λ month mark m. no-mark mark m; each_posting_adds_one_line_an_owner = refl };
-      marks-are = unmarked;
-      marks-below = λ month mark m. no-mark mark m;
-      entries-few = omega arith;
-      room-is = refl;
-      free-are = omega arith;
+      law = record { journal_holds_the_entries = empty; answers_are_the_checks = tt; lines_add_up_to_the_net = λ month mark m. no_mark mark m; each_posting_adds_one_line_an_owner = refl };
+      marks_are = unmarked;
+      marks_below = λ month mark m. no_mark mark m;
+      entries_few = omega arith;
+      room_is = refl;
+      free_are = omega arith;
       rows_are = omega arith;
-      unsettled-nothing = λ month owner m. refl;
+      unsettled_nothing = λ month owner m. refl;
     }
   where
-    no-mark : {P : Type 0} (mark : ℕ) → ◌≡◌ {A = Option ℕ} None (Some mark) → P
-    no-mark mark m = let z : ◌≡◌ {A = ℕ} 0 1 = cc in absurd (omega arith)
+    no_mark : {P : Type 0} (mark : ℕ) → ◌≡◌ {A = Option ℕ} None (Some mark) → P
+    no_mark mark m = let z : ◌≡◌ {A = ℕ} 0 1 = cc in absurd (omega arith)
 
 -- the same call and answer, by other names
 pub renamed : {C : Type 0} (meaning : ℕ → List OwnerRow → Outcome) (t : Terms) (h : List Event) (b : Book C) (j : Vec Entry Global) (free : ℕ) (q q' : Request) (x x' : Result Grant Refusal) (rows rows' : List Row)
@@ -238,3 +238,9 @@ same_lines all earlier before after is is' = append_cancel_left earlier before a
 
 pub behind_more : (all all' more earlier before : List Row) → all ≡ earlier ++ before → all' ≡ all ++ more → all' ≡ earlier ++ drop (length earlier) all'
 behind_more all all' more earlier before is adds = behind all' earlier (before ++ more) (adds ∙ ap (λ xs. xs ++ more) is ∙ append_assoc earlier before more)
+
+-- withdrawing an opening, whichever it is, leaves what is accounted for
+pub withdraws-on : {C : Type 0} (meaning : ℕ → List OwnerRow → Outcome) (t : Terms) (h : List Event) (book : Book C) (j : Vec Entry Global) (rows : List Row) (free : ℕ)
+    → Account meaning t h book j rows free → (month n : ℕ) → Account meaning t (h ++ event_of (withdraws month n) (Ok withdrawn) ∷ []) book j rows free
+withdraws-on meaning t h book j rows free account month n =
+    kept meaning t h book j rows free account _ j refl (withdrawn_on t h book.marks (entries_of j) (vec_capacity j) rows free month n account.accounts)

@@ -1,5 +1,5 @@
 -- What the weights and amounts of an adjustment keep to.
-use Rattle.std.proofs.Common.{◌≡◌, ℕ, ◌+◌, ◌-◌, ◌*◌, ◌<◌, ◌≤◌, Bool, true, false, cond, ◌⊎◌, List, [], ◌∷◌, ◌++◌, map, length, get_or, take, ℤ, pos, negsuc, ◌+ℤ◌, ◌-ℤ◌, ◌*ℤ◌, nat_abs, Some, None, Ok, Err, Result, sym, refl, ap, ◌∙◌, inl, inr, arith, w64, to_z, of_z}
+use Rattle.std.proofs.Common.{◌≡◌, ℕ, ◌+◌, ◌-◌, ◌<◌, ◌≤◌, Bool, true, false, cond, ◌⊎◌, List, [], ◌∷◌, map, length, get_or, take, ℤ, pos, negsuc, ◌+ℤ◌, ◌-ℤ◌, ◌*ℤ◌, nat_abs, Some, None, Ok, Err, Result, ap, ◌∙◌, inl, inr, arith, w64, to_z, of_z}
 use Rattle.charges.proofs.Reckoning.{small-fits}
 use Rattle.std.proofs.lemmas.List.{get_or-map, get_or_past, length-map}
 use Rattle.std.proofs.lemmas.Int.{ints, to_z-of_z}
@@ -9,8 +9,7 @@ use Rattle.charges.specs.Answered.{first_fault-pass, first_fault-stop}
 use Rattle.book.specs.Answers.{nets_answer}
 use Rattle.book.specs.Workings.{plain, adjustment, weight_check, net_checks, netted, nets_of}
 use Rattle.book.specs.Workings.{Refusal as BookRefusal}
-use Rattle.division.specs.Laws.{Divides, Rounds}
-use Rattle.division.specs.Nearest.{nearest, Floor}
+use Rattle.division.specs.Nearest.{nearest}
 use Rattle.division.specs.Outcomes.{Refused}
 use Rattle.division.specs.Shares.{total, int_sum, shares}
 use Rattle.division.specs.declared.Refusal.{Refusal}
@@ -24,7 +23,7 @@ use Rattle.charges.specs.declared.table.OwnerRow.{OwnerRow}
 use Rattle.charges.specs.PoolsLemmas.{row_within, product-within}
 use Rattle.charges.specs.Scans.{all_pass}
 use Rattle.book.specs.Bounds.{AllWithin}
-use Rattle.book.specs.Workings.{required, weight_of, not_below, utility_rate, utility_amount, rate_check}
+use Rattle.book.specs.Workings.{weight_of, not_below, utility_rate, utility_amount, rate_check}
 
 not-below : (a b : ℤ) → not_below (a +ℤ b) ≤ nat_abs a + nat_abs b
 not-below a b = by (a +ℤ b) (omega (arith, ints))

@@ -1,5 +1,5 @@
 -- What the figures of a month that is worked out keep to.
-use Rattle.std.proofs.Common.{◌≡◌, ℕ, suc, ◌<◌, ◌≤◌, Bool, true, false, cond, ◌&&◌, eqb, ◌⊎◌, List, [], ◌∷◌, ◌++◌, map, length, ℤ, pos, ◌-ℤ◌, nat_abs, IfOk, Some, None, Ok, Err, Option, Result, sym, refl, ap, ◌∙◌, subst, inl, inr, arith}
+use Rattle.std.proofs.Common.{◌≡◌, ℕ, suc, ◌<◌, ◌≤◌, Bool, true, false, cond, ◌&&◌, eqb, ◌⊎◌, List, [], ◌∷◌, ◌++◌, map, length, ℤ, pos, nat_abs, IfOk, Some, None, Ok, Err, Option, Result, sym, refl, ap, ◌∙◌, subst, inl, inr, arith}
 use Rattle.std.proofs.lemmas.List.{length-map}
 use Rattle.std.proofs.lemmas.Int.{ints}
 use Rattle.std.proofs.lemmas.Bool.{cases_lt, and_cases, eq-eqb, ltb-false}
@@ -14,7 +14,7 @@ use Rattle.charges.specs.Answered.{first_fault-pass, first_fault-stop}
 use Rattle.charges.proofs.Promised.{within-caps}
 use Rattle.book.specs.Entries.{Noted}
 use Rattle.book.specs.Laws.{Balanced}
-use Rattle.book.specs.Workings.{Refusal, plain, Figures, Working, denied, worked, table_checks, rows_from, charged, settled, netted, net_checks, rate_check, weight_check, adjustment, utility_amount, weight_of, less, nets_of, worked_out}
+use Rattle.book.specs.Workings.{Refusal, plain, Figures, worked, table_checks, rows_from, charged, settled, netted, net_checks, rate_check, weight_check, adjustment, utility_amount, weight_of, less, nets_of, worked_out}
 use Rattle.book.proofs.Adjusting.{length-shares}
 use Rattle.book.proofs.Differences.{length-less, length-nets}
 use Rattle.book.proofs.Growing.{sum_less}

@@ -1,10 +1,10 @@
 -- Lists of differences, and sums of lists.
-use Rattle.std.proofs.Common.{◌≡◌, ℕ, zero, suc, ◌+◌, ◌*◌, ◌<◌, ◌≤◌, Bool, true, false, eqb, List, [], ◌∷◌, ◌++◌, length, get_or, take, drop, set, ℤ, pos, ◌+ℤ◌, ◌-ℤ◌, nat_abs, sym, refl, ap, ◌∙◌, arith, w64, SFits, to_z, of_z}
-use Rattle.std.proofs.lemmas.List.{take_more, take_more_set, take_all, get_or-take, get_or_past, length-take-le, length-take}
+use Rattle.std.proofs.Common.{◌≡◌, ℕ, zero, suc, ◌+◌, ◌<◌, ◌≤◌, false, eqb, List, [], ◌∷◌, ◌++◌, length, get_or, take, set, ℤ, pos, ◌+ℤ◌, ◌-ℤ◌, nat_abs, sym, refl, ap, ◌∙◌, arith, w64, SFits, to_z, of_z}
+use Rattle.std.proofs.lemmas.List.{take_more, take_more_set, take_all}
 use Rattle.std.proofs.lemmas.Int.{ints, to_z-of_z}
 use Rattle.charges.proofs.Reckoning.{small-fits}
-use Rattle.std.proofs.lemmas.List.Sums.{fold_more, sum_by-drop_more, get_or-le-sum_by}
-use Rattle.std.proofs.lemmas.Bool.{ne_eqb, eq-eqb}
+use Rattle.std.proofs.lemmas.List.Sums.{fold_more, get_or-le-sum_by}
+use Rattle.std.proofs.lemmas.Bool.{ne_eqb}
 use Rattle.division.specs.Shares.{total, int_sum}
 use Rattle.book.specs.Bounds.{AllWithin}
 use Rattle.book.specs.Workings.{less}

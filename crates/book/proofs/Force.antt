@@ -1,11 +1,11 @@
 -- The entries in force, one entry more.
-use Rattle.std.proofs.Common.{◌≡◌, ℕ, ◌<◌, ◌≤◌, Bool, true, false, cond, ◌&&◌, eqb, leb, ◌⊎◌, List, [], ◌∷◌, ◌++◌, length, get_or, set, Some, None, Option, sym, refl, ap, ◌∙◌, inl, inr, arith}
+use Rattle.std.proofs.Common.{◌≡◌, ℕ, ◌<◌, ◌≤◌, Bool, true, false, cond, ◌&&◌, eqb, ◌⊎◌, List, [], ◌∷◌, ◌++◌, length, get_or, set, Some, None, Option, sym, refl, ap, ◌∙◌, inl, inr, arith}
 use Rattle.std.specs.Option.{option_map}
 use Rattle.std.proofs.lemmas.List.{get_or-set_same, get_or-set_other}
-use Rattle.std.proofs.lemmas.Bool.{cases_eq, eq-eqb, ne_eqb, le-leb, lt-leb, and_from, and_left, and_right}
-use Rattle.book.specs.Entries.{Filed, Metered, Noted, filed, metered, covers, filing_for, reading_for, or_else, latest}
+use Rattle.std.proofs.lemmas.Bool.{cases_eq, eq-eqb, ne_eqb, le-leb, and_from, and_left, and_right}
+use Rattle.book.specs.Entries.{Noted, filed, metered, covers, filing_for, reading_for, or_else, latest}
 use Rattle.book.specs.Forces.{InForce}
-use Rattle.book.specs.Meaning.{filed_of, metered_of, noted}
+use Rattle.book.specs.Meaning.{filed_of, metered_of}
 use Rattle.book.specs.declared.entry.Filing.{Filing}
 use Rattle.book.specs.declared.entry.Reading.{Reading}
 use Rattle.book.specs.declared.standings.Standing.{Standing}
@@ -54,24 +54,24 @@ module _ (s : Standing) (month : ℕ) (entries : List Noted) (i : InForce s mont
         readings = λ o h. i.readings o h ∙ not-picked (reading_for month o) entries (filed (filed_of f)) refl;
       }
 
-  pub force-reading : (r : Reading) → 16 ≤ length s.readings → r.month ≡ month
+  pub force_reading : (r : Reading) → 16 ≤ length s.readings → r.month ≡ month
       → InForce (record { filings = s.filings; readings = set s.readings r.owner (Some r) }) month (entries ++ metered (metered_of r) ∷ [])
-  force-reading r long same =
+  force_reading r long same =
       let c : eqb r.month month ≡ true = eq-eqb _ _ same in
       record {
         filings = λ o h. i.filings o h ∙ not-picked (filing_for month o) entries (metered (metered_of r)) refl;
         readings = λ o h. one_set metered_of s.readings r r.owner (omega (arith, r.within.1)) (eqb r.month month) c o (latest (reading_for month o) entries) (i.readings o h) ∙ sym (latest-push (reading_for month o) entries (metered (metered_of r)));
       }
 
-  pub force-other-filing : (f : Filing) → covers month (filed_of f) ≡ false → InForce s month (entries ++ filed (filed_of f) ∷ [])
-  force-other-filing f c =
+  pub force_other_filing : (f : Filing) → covers month (filed_of f) ≡ false → InForce s month (entries ++ filed (filed_of f) ∷ [])
+  force_other_filing f c =
       record {
         filings = λ o h. i.filings o h ∙ not-picked (filing_for month o) entries (filed (filed_of f)) (away (eqb f.owner o) (filed_of f) (covers month (filed_of f)) c);
         readings = λ o h. i.readings o h ∙ not-picked (reading_for month o) entries (filed (filed_of f)) refl;
       }
 
-  pub force-other-reading : (r : Reading) → eqb r.month month ≡ false → InForce s month (entries ++ metered (metered_of r) ∷ [])
-  force-other-reading r c =
+  pub force_other_reading : (r : Reading) → eqb r.month month ≡ false → InForce s month (entries ++ metered (metered_of r) ∷ [])
+  force_other_reading r c =
       record {
         filings = λ o h. i.filings o h ∙ not-picked (filing_for month o) entries (metered (metered_of r)) refl;
         readings = λ o h. i.readings o h ∙ not-picked (reading_for month o) entries (metered (metered_of r)) (away (eqb r.owner o) (metered_of r) (eqb r.month month) c);

@@ -1,5 +1,5 @@
 -- Filings and readings that are granted.
-use Rattle.std.proofs.Common.{◌≡◌, ℕ, ◌<◌, Bool, true, false, not, ◌||◌, ltb, Ok, Err, Result, sym, refl, ap, ◌∙◌}
+use Rattle.std.proofs.Common.{◌≡◌, ℕ, ◌<◌, true, false, ◌||◌, ltb, Ok, Result, ap}
 use Rattle.std.proofs.lemmas.Bool.{lt-ltb}
 use Rattle.book.specs.Checks.{filing_checks, reading_checks, full, outside_filing, verdict}
 use Rattle.book.specs.Entries.{Filed, Metered}

@@ -1,13 +1,13 @@
 -- What posting an opening comes to, as the code goes through its checks.
-use Rattle.std.proofs.Common.{◌≡◌, ℕ, zero, suc, ◌+◌, ◌<◌, ◌≤◌, min, Bool, true, false, cond, eqb, ltb, ◌⊎◌, List, [], ◌∷◌, ◌++◌, map, length, get_or, take, set, replicate, ℤ, pos, nat_abs, IfOk, Some, None, Ok, Err, Option, Result, sym, refl, ap, ◌∙◌, inl, inr, append-nil, arith}
+use Rattle.std.proofs.Common.{◌≡◌, ℕ, zero, suc, ◌<◌, ◌≤◌, min, Bool, true, false, cond, eqb, ltb, ◌⊎◌, List, [], ◌∷◌, map, length, get_or, take, set, replicate, ℤ, pos, nat_abs, IfOk, Some, None, Ok, Err, Option, Result, sym, refl, ap, ◌∙◌, inl, inr, arith}
 use Rattle.std.proofs.lemmas.List.{take-map, take-take, take_all, length-take, get_or-set_same, get_or-set_other}
-use Rattle.std.proofs.lemmas.Bool.{cases_lt, cases_Bool, lt-ltb, le-ltb, eqb-true, eqb-false}
+use Rattle.std.proofs.lemmas.Bool.{cases_lt, lt-ltb, le-ltb, eqb-true, eqb-false}
 use Rattle.charges.specs.Outcomes.{Outcome}
 use Rattle.charges.specs.declared.table.OwnerRow.{OwnerRow}
 use Rattle.book.specs.Answers.{nets_answer, nets_in, told}
 use Rattle.book.specs.Entries.{Noted}
 use Rattle.book.specs.Meaning.{noted}
-use Rattle.book.specs.Postings.{post_checks, nets_before, cents_of, posting, lines_from}
+use Rattle.book.specs.Postings.{nets_before, cents_of, posting, lines_from}
 use Rattle.book.specs.States.{is_current}
 use Rattle.book.specs.Workings.{Refusal, plain, placed, Working, less, worked_out}
 use Rattle.book.specs.declared.entry.Entry.{Entry}

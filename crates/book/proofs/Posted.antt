@@ -1,5 +1,5 @@
 -- The lines that a posting adds, one by one.
-use Rattle.std.proofs.Common.{◌≡◌, ℕ, ◌+◌, ◌<◌, ◌≤◌, List, [], ◌∷◌, ◌++◌, length, get_or, take, drop, ℤ, pos, ◌-ℤ◌, nat_abs, sym, refl, ap, ◌∙◌, append_assoc, add-one, arith, w64, SFits, to_z, of_z}
+use Rattle.std.proofs.Common.{◌≡◌, ℕ, ◌+◌, ◌<◌, ◌≤◌, List, [], ◌∷◌, ◌++◌, length, get_or, drop, ℤ, pos, ◌-ℤ◌, nat_abs, sym, ap, ◌∙◌, append_assoc, add-one, arith, w64, SFits, to_z, of_z}
 use Rattle.std.proofs.lemmas.List.{at_drop_more, at_drop_all, get_or-take, append-nil, length-take-le}
 use Rattle.std.proofs.lemmas.Int.{ints, to_z-of_z}
 use Rattle.rolls.specs.Rows.{Row, row_of}

@@ -1,13 +1,13 @@
 -- Histories of scripts, and what is promised of them.
-use Rattle.std.proofs.Common.{◌≡◌, ℕ, zero, suc, ◌+◌, ◌*◌, ◌<◌, ◌≤◌, min, ◌⊎◌, List, [], ◌∷◌, ◌++◌, map, length, get_or, take, drop, set, pos, Result, sym, refl, ap, ◌∙◌, subst, inl, inr, append-nil, arith}
+use Rattle.std.proofs.Common.{◌≡◌, ℕ, zero, suc, ◌+◌, ◌*◌, ◌<◌, ◌≤◌, min, ◌⊎◌, List, [], ◌∷◌, ◌++◌, map, length, get_or, take, drop, set, pos, Result, sym, refl, ap, ◌∙◌, subst, inl, inr, arith}
 use Rattle.std.proofs.lemmas.List.{take_more, take_more_set, take_all, drop_all, drop-drop, drop-set-lt, length-take-le}
 use Rattle.std.proofs.lemmas.Bool.{cases_lt}
 use Rattle.division.specs.Shares.{int_sum}
 use Rattle.rolls.specs.Rows.{Row}
 use Rattle.book.specs.Answers.{told}
 use Rattle.book.specs.Entries.{Noted}
-use Rattle.book.specs.Histories.{Event, Terms, event_of, owners, afresh}
-use Rattle.book.specs.Laws.{Balanced, Settled, OnePosting, Rolled}
+use Rattle.book.specs.Histories.{Terms, event_of, owners, afresh}
+use Rattle.book.specs.Laws.{Balanced, Settled, Rolled}
 use Rattle.book.specs.Scripts.{request_of, grant_of, history_of}
 use Rattle.book.specs.Workings.{Figures, worked}
 use Rattle.book.specs.declared.call.Call.{Call}

@@ -1,13 +1,13 @@
 -- The rows of a month's table, and which rows make a table.
-use Rattle.std.proofs.Common.{◌≡◌, ℕ, zero, suc, ◌+◌, ◌<◌, ◌≤◌, Bool, true, false, cond, not, ◌||◌, eqb, ltb, ◌≢◌, ◌⊎◌, List, [], ◌∷◌, ◌++◌, length, get_or, take, drop, set, nat_abs, is_some, Some, None, Option, sym, refl, ap, ◌∙◌, inl, inr, append_assoc, add-one, arith}
+use Rattle.std.proofs.Common.{◌≡◌, ℕ, suc, ◌+◌, ◌<◌, ◌≤◌, Bool, true, false, cond, not, ◌||◌, eqb, ltb, ◌⊎◌, List, [], ◌∷◌, ◌++◌, length, get_or, take, drop, set, is_some, Some, None, Option, sym, refl, ap, ◌∙◌, inl, inr, append_assoc, add-one, arith}
 use Rattle.std.specs.Option.{option_map}
-use Rattle.std.proofs.lemmas.List.{at_drop_more, at_drop_all, take_more_set, get_or-set_same, get_or-set_other, get_or_default, append-nil, take_all}
-use Rattle.std.proofs.lemmas.Bool.{cases_eq, cases_lt, or_from, le-ltb, ne_eqb}
-use Rattle.charges.specs.Checks.{Check, first_fault, any_by}
-use Rattle.charges.specs.Rows.{RowWithin, nobody, ehv_size, required_size}
+use Rattle.std.proofs.lemmas.List.{at_drop_more, at_drop_all, take_more_set, get_or-set_same, get_or-set_other, get_or_default, append-nil}
+use Rattle.std.proofs.lemmas.Bool.{cases_eq, or_from, le-ltb, ne_eqb}
+use Rattle.charges.specs.Checks.{first_fault}
+use Rattle.charges.specs.Rows.{RowWithin, nobody}
 use Rattle.charges.specs.Tables.{table_checks, outside_areas, outside_figures, outside_figure}
 use Rattle.charges.specs.declared.fault.TableFault.{TableFault}
-use Rattle.charges.specs.declared.fault.TableFault.TheVariants.{Owners, Figure, Totals}
+use Rattle.charges.specs.declared.fault.TableFault.TheVariants.{Totals}
 use Rattle.charges.specs.declared.table.OwnerRow.{OwnerRow}
 use Rattle.book.specs.Entries.{Noted}
 use Rattle.book.specs.Forces.{InForce}

@@ -1,6 +1,5 @@
 -- Each refusal of the book by its number, with its place and level where these are named.
-use Rattle.std.specs.Prelude.{Some, None}
-use Rattle.charges.specs.declared.fault.ChargeFault.{ChargeFault}
+use Rattle.std.specs.Prelude.{Some}
 use Rattle.book.specs.Workings.{Refusal, plain, placed}
 use Rattle.book.specs.declared.fault.BookFault.{BookFault}
 use Rattle.book.specs.declared.fault.BookFault.TheVariants.{Owners, UnknownOwner, Month, Figure, JournalFull, ShortDraft, Current, NoFiling, NoReading, Totals, Charge, UtilityRate, NoWeight, BeyondJournal, Untouched, RollFull}

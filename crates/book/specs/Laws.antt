@@ -1,5 +1,5 @@
 -- The law of a history: what the journal and the roll hold after any calls, by the calls and their answers alone.
-use Rattle.std.specs.Prelude.{◌≡◌, ℕ, zero, suc, ◌+◌, ◌*◌, ◌<◌, ◌≤◌, List, [], ◌∷◌, ◌++◌, map, length, take, drop, ℤ, pos, ◌≤ℤ◌, Some, None, Option, slice_index, slice_index_or}
+use Rattle.std.specs.Prelude.{◌≡◌, ℕ, zero, suc, ◌+◌, ◌*◌, ◌<◌, ◌≤◌, List, [], ◌∷◌, ◌++◌, map, length, take, drop, pos, ◌≤ℤ◌, Some, None, Option, slice_index, slice_index_or}
 use Rattle.division.specs.Shares.{int_sum, shares}
 use Rattle.charges.specs.Promises.{AllFiled}
 use Rattle.charges.specs.Rows.{requirements}
@@ -57,10 +57,10 @@ pub record Law (t : Terms) (h : List Event) (entries : List Noted) (rows : List 
 -- what marks, a journal and a roll keep of a history: its law, and what the next call goes by
 pub record Accounts (t : Terms) (h : List Event) (marks : List (Option ℕ)) (entries : List Noted) (room : ℕ) (rows : List Row) (free : ℕ) : Type 0 where
   pub law : Law t h entries rows
-  pub marks-are : (month : ℕ) → slice_index_or marks month None ≡ mark_by month h
-  pub marks-below : (month mark : ℕ) → mark_by month h ≡ Some mark → mark ≤ length (entries_by h)
-  pub entries-few : length (entries_by h) ≤ 8192
-  pub room-is : room ≡ t.room
-  pub free-are : free + length (postings_by h) * owners t ≡ t.lines
+  pub marks_are : (month : ℕ) → slice_index_or marks month None ≡ mark_by month h
+  pub marks_below : (month mark : ℕ) → mark_by month h ≡ Some mark → mark ≤ length (entries_by h)
+  pub entries_few : length (entries_by h) ≤ 8192
+  pub room_is : room ≡ t.room
+  pub free_are : free + length (postings_by h) * owners t ≡ t.lines
   pub rows_are : length rows ≡ length (postings_by h) * owners t
-  pub unsettled-nothing : (month owner : ℕ) → mark_by month h ≡ None → sum_of month owner rows ≡ pos 0
+  pub unsettled_nothing : (month owner : ℕ) → mark_by month h ≡ None → sum_of month owner rows ≡ pos 0

@@ -1,5 +1,5 @@
 -- What is promised of a script that a new book has performed, by its calls and their answers alone.
-use Rattle.std.specs.Prelude.{◌≡◌, ℕ, ◌*◌, ◌<◌, List, [], map, length, take, drop, pos, ◌≤ℤ◌, Some, vec_capacity, Result, Vec, slice_index, slice_index_or}
+use Rattle.std.specs.Prelude.{◌≡◌, ℕ, ◌*◌, ◌<◌, List, [], map, length, take, drop, pos, ◌≤ℤ◌, Some, Result, Vec, slice_index, slice_index_or}
 use Rattle.std.specs.declared.alloc.Global.{Global}
 use Rattle.division.specs.Shares.{int_sum, shares}
 use Rattle.charges.specs.Outcomes.{Outcome}

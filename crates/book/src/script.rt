@@ -1,11 +1,12 @@
 // A script of calls, performed by a new book.
-ghost use Rattle.std.specs.Prelude.{◌≡◌, ℕ, List, [], ◌∷◌, ◌++◌, length, drop, vec_capacity, OnErr, OnOk};
+ghost use Rattle.std.specs.Prelude.{◌≡◌, ℕ, List, [], ◌∷◌, ◌++◌, ◌<◌, length, drop, vec_capacity, MatchOption, OnErr, OnOk};
 ghost use Rattle.charges.specs.Checks.{first_fault};
 ghost use Rattle.rolls.specs.Rows.{Row};
 ghost use Rattle.book.specs.Accounts.{Account};
 ghost use Rattle.book.specs.Answers.{fault_of, told};
 ghost use Rattle.book.specs.Checks.{set_up_checks};
-ghost use Rattle.book.specs.Histories.{Event, Terms, drew, entered, event_of, opens, posted, stands};
+ghost use Rattle.book.specs.Histories.{Event, Terms, drew, entered, event_of, opens, posted, posts, stands};
+ghost use Rattle.book.specs.Postings.{lines_of, posting_in};
 ghost use Rattle.book.specs.Runs.{AnswersAreTheChecks, BurdensStayWithinCaps, EachPostingAddsOneLineAnOwner, JournalHoldsTheEntries, LinesAddUpToTheNet, PartsCoverTheRequirements, PostingsCancel, run_of};
 ghost use Rattle.book.specs.Scripts.{empty_draft, grant_of, history_of, request_of};
 ghost use Rattle.book.specs.States.{state_as};
@@ -41,15 +42,18 @@ fn told(answer: Result<State, BookFault>) -> Result<Reply, BookFault>
 }
 
 impl Written {
-    // The opening that was written down.
-    fn opening(self) -> Opening
-        ensures { (result.month ≡ self.month) × (result.count ≡ self.count) }
+    // The opening that was written down; there is none at more entries than a journal takes.
+    fn opening(self) -> Option<Opening>
+        ensures { MatchOption result (8192 < self.count) (λ o. (o.month ≡ self.month) × (o.count ≡ self.count)) }
     {
-        Opening {
+        if self.count > 8192 {
+            return None;
+        }
+        Some(Opening {
             month: self.month,
             count: self.count,
             spent: false,
-        }
+        })
     }
 }
 
@@ -68,6 +72,22 @@ impl<C: Charge> Book<C> {
             count,
             draft,
         })
+    }
+
+    // Posts an opening that was written down.
+    fn post_written<R: Roll>(
+        &mut self,
+        journal: &Vec<Entry>,
+        roll: &mut R,
+        written: Written,
+    ) -> Result<(), BookFault>
+        ensures lines { R.lines roll.new ≡ R.lines roll.old ++ lines_of written.month written.count (posting_in (C.meaning self.old.charge) self.old journal.now written.month written.count (R.spare roll.old)) }
+        ensures law { (t : Terms) (h : List Event) (earlier before after : List Row) → R.lines roll.old ≡ earlier ++ before → R.lines roll.new ≡ earlier ++ after → Account (C.meaning self.old.charge) t h self.old journal.now before (R.spare roll.old) → Account (C.meaning self.new.charge) t (h ++ event_of (posts written.month written.count) (told (λ _. posted) result) ∷ []) self.new journal.now after (R.spare roll.new) }
+    {
+        let Some(opening) = written.opening() else {
+            return Err(BookFault::BeyondJournal);
+        };
+        self.post(journal, roll, opening)
     }
 
     // Performs one call.
@@ -97,9 +117,11 @@ impl<C: Charge> Book<C> {
                 peak,
             } => entered(self.read(journal, month, owner, load, peak)),
             Call::Open { month } => self.open_written(journal, month),
-            Call::Post(written) => posted(self.post(journal, roll, written.opening())),
+            Call::Post(written) => posted(self.post_written(journal, roll, written)),
             Call::Withdraw(written) => {
-                written.opening().withdraw();
+                if let Some(opening) = written.opening() {
+                    opening.withdraw();
+                }
                 Ok(Reply::Withdrawn)
             }
             Call::State { month } => told(self.state(journal, month)),

@@ -70,8 +70,8 @@ module _ (bs : List ℕ) (place : ℕ) (s : Sums) (c : Counted bs place s) where
       }
 
   -- the record at this place cannot be read
-  pub stopped-at : (e : Refusal) → place * 27 < length bs → reading place left ≡ Err e → contents bs ≡ record { rows = c.rows; fault = Some e }
-  stopped-at e more read =
+  pub stopped_at : (e : Refusal) → place * 27 < length bs → reading place left ≡ Err e → contents bs ≡ record { rows = c.rows; fault = Some e }
+  stopped_at e more read =
       goes_on more ∙ ap (λ r. after c.rows (grown r (contents_from (length bs - place - 1) (place + 1) (drop 27 left)))) read
       ∙ ap (λ zs. record { rows = zs; fault = Some e }) (append-nil c.rows)
 

@@ -1,6 +1,5 @@
-use Rattle.std.proofs.Common.{◌≡◌, get_or, pos, refl, arith}
+use Rattle.std.proofs.Common.{get_or, pos, refl, arith}
 use Rattle.std.proofs.lemmas.List.{length-set}
-use Rattle.book.specs.Bounds.{AllWithin}
 use Rattle.book.proofs.Differences.{nets-more, nets-all, nets-small, cast-less}
 use Rattle.book.proofs.netting.less_both.Goals as goal
 

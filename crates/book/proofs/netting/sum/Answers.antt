@@ -1,4 +1,4 @@
-use Rattle.std.proofs.Common.{◌≡◌, ◌+◌, ◌*◌, ◌≤◌, get_or, take, pos, ◌+ℤ◌, nat_abs, ap, ◌∙◌, arith, w64, to_z}
+use Rattle.std.proofs.Common.{◌*◌, ◌≤◌, get_or, pos, nat_abs, ap, ◌∙◌, arith}
 use Rattle.std.proofs.lemmas.List.{take_all}
 use Rattle.std.proofs.lemmas.Int.{ints}
 use Rattle.division.specs.Shares.{int_sum}

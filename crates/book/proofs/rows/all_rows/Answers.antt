@@ -1,5 +1,5 @@
-use Rattle.std.proofs.Common.{◌≡◌, ℕ, ◌<◌, ◌≤◌, ◌⊎◌, length, get_or, replicate, None, sym, refl, ap, ◌∙◌, inl, inr, arith, rules}
-use Rattle.std.proofs.lemmas.List.{length-set, get_or_default, get_or-replicate, get_or_past, length-replicate}
+use Rattle.std.proofs.Common.{ℕ, ◌<◌, ◌≤◌, ◌⊎◌, length, get_or, replicate, None, refl, inl, inr, arith, rules}
+use Rattle.std.proofs.lemmas.List.{length-set, get_or_default, get_or-replicate, get_or_past}
 use Rattle.std.proofs.lemmas.Bool.{cases_lt}
 use Rattle.charges.specs.Rows.{RowWithin, nobody}
 use Rattle.book.proofs.Tabling.{rows_more, rows_all, nobody-within, within-set}

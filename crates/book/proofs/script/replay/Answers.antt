@@ -1,4 +1,4 @@
-use Rattle.std.proofs.Common.{◌≡◌, List, [], map, length, drop, vec_items, vec_capacity, sym, refl, ap, ◌∙◌, subst, append-nil}
+use Rattle.std.proofs.Common.{[], map, length, drop, vec_capacity, sym, refl, ap, subst, append-nil}
 use Rattle.std.proofs.lemmas.Result.{err_from_is_err_and}
 use Rattle.book.specs.Histories.{Terms, entries_by, postings_by, owners}
 use Rattle.book.specs.Journals.{entries_of}

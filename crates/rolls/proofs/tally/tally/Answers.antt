@@ -4,7 +4,7 @@ use Rattle.std.proofs.lemmas.Result.{err_from_is_err_and}
 use Rattle.rolls.specs.Meaning.{row, refusal}
 use Rattle.rolls.specs.Records.{encoded}
 use Rattle.rolls.proofs.Bounds.{room-left}
-use Rattle.rolls.proofs.Counting.{counted-more, stopped-at, ended_at}
+use Rattle.rolls.proofs.Counting.{counted-more, stopped_at, ended_at}
 use Rattle.rolls.proofs.tally.tally.Goals as goal
 
 pub returns-in_err-line : goal.returns-in_err-line
@@ -14,7 +14,7 @@ returns-in_err-line c =
     let k = c.loop-place.place in
     let rest : take (length bs - k * 27) (drop (k * 27) bs) ≡ drop (k * 27) bs = take_rest bs (k * 27) in
     let read = rw rest at c.in_err-line.ensures.read in
-    let all = stopped-at bs k c.loop-place.sums c.loop-place.invariant (refusal c.in_err-line.field-0.0) c.loop-place-test.true (sym read) in
+    let all = stopped_at bs k c.loop-place.sums c.loop-place.invariant (refusal c.in_err-line.field-0.0) c.loop-place-test.true (sym read) in
     rw (p.1, p.2, all) (record { ends = refl; sums = c.loop-place.invariant.sums; within = c.loop-place.invariant.within; few = omega (arith, c.loop-place.invariant.many, c.loop-place.invariant.reached) })
 
 pub add-requires : goal.add-requires

@@ -1,4 +1,4 @@
-use Rattle.std.proofs.Common.{◌≡◌, ℕ, ◌≤◌, length, get_or, take, replicate, ℤ, pos, None, Ok, sym, refl, ap, ◌∙◌, arith, rules}
+use Rattle.std.proofs.Common.{◌≡◌, length, take, replicate, pos, None, Ok, sym, refl, ap, ◌∙◌, rules}
 use Rattle.std.proofs.lemmas.List.{length-take-le, take-replicate}
 use Rattle.book.specs.Books.{areas_of, mark_of}
 use Rattle.book.specs.Postings.{nets_before}

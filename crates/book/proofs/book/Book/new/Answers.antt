@@ -1,4 +1,4 @@
-use Rattle.std.proofs.Common.{◌≡◌, ℕ, ◌<◌, ◌≤◌, false, cond, ◌||◌, eqb, ltb, ◌⊎◌, length, get_or, replicate, Some, None, vec_capacity, Option, sym, refl, ap, ◌∙◌, inl, inr}
+use Rattle.std.proofs.Common.{◌≡◌, ℕ, ◌<◌, ◌≤◌, false, cond, ◌||◌, eqb, ltb, ◌⊎◌, length, get_or, replicate, Some, None, vec_capacity, Option, sym, refl, ap, inl, inr}
 use Rattle.std.proofs.lemmas.List.{get_or-replicate, get_or_past}
 use Rattle.std.proofs.lemmas.Bool.{cases_lt, or_from, ne_eqb, le-ltb}
 use Rattle.charges.specs.Checks.{any_by}

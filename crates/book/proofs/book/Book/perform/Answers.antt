@@ -1,9 +1,7 @@
-use Rattle.std.proofs.Common.{◌≡◌, vec_capacity, sym, refl, ap, ◌∙◌, w64, SFits, rules}
+use Rattle.std.proofs.Common.{sym, refl, ap, w64, SFits, rules}
 use Rattle.std.proofs.lemmas.Int.{to_z-of_z}
-use Rattle.book.specs.Histories.{posts, withdraws}
-use Rattle.book.specs.Journals.{entries_of}
 use Rattle.book.specs.Scripts.{request_of}
-use Rattle.book.proofs.Accounting.{renamed, kept, behind, behind_more, same_lines}
+use Rattle.book.proofs.Accounting.{renamed, withdraws-on, behind, behind_more, same_lines}
 use Rattle.book.proofs.book.Book.perform.Goals as goal
 
 pub returns-in-File : goal.returns-in-File
@@ -41,24 +39,31 @@ returns-in-Open g c =
 pub returns-in-Post : goal.returns-in-Post
 returns-in-Post g c =
     let a = c.args in
-    let p = c.post.ensures in
-    let o = c.opening.ensures in
+    let p = c.post_written.ensures in
     record {
       kept = λ earlier before is. behind_more (g.R.Roll.lines a.roll.now) _ _ earlier before is p.lines;
       law = λ t h earlier before after is is' account.
-          renamed _ t h _ a.journal.now _ _ _ _ _ after after (ap (λ m. posts m c.opening.result.count) o.0 ∙ ap (λ n. posts c.in-Post.written.month n) o.1 ∙ ap request_of (sym c.in-Post.is)) (sym c.posted.ensures) refl (p.law t h earlier before after is is' account);
+          renamed _ t h _ a.journal.now _ _ _ _ _ after after (ap request_of (sym c.in-Post.is)) (sym c.posted.ensures) refl (p.law t h earlier before after is is' account);
     }
 
-pub returns-in-Withdraw : goal.returns-in-Withdraw
-returns-in-Withdraw g c =
+pub returns-in-Some : goal.returns-in-Some
+returns-in-Some g c =
     let a = c.args in
-    let o = c.opening-in-Withdraw.ensures in
     record {
       kept = behind (g.R.Roll.lines a.roll.now);
       law = λ t h earlier before after is is' account.
-          let b = account.accounts in
-          let on = kept (g.C.Charge.meaning a.self.now.charge) t h a.self.now a.journal.now before (g.R.Roll.spare a.roll.now) account _ a.journal.now refl (c.withdraw.ensures.law t h a.self.now.marks (entries_of a.journal.now) (vec_capacity a.journal.now) before (g.R.Roll.spare a.roll.now) b) in
-          renamed (g.C.Charge.meaning a.self.now.charge) t h a.self.now a.journal.now (g.R.Roll.spare a.roll.now) _ _ _ _ before after (ap (λ m. withdraws m c.opening-in-Withdraw.result.count) o.0 ∙ ap (λ n. withdraws c.in-Withdraw.written.month n) o.1 ∙ ap request_of (sym c.in-Withdraw.is)) refl (same_lines (g.R.Roll.lines a.roll.now) earlier before after is is') on;
+          renamed (g.C.Charge.meaning a.self.now.charge) t h a.self.now a.journal.now (g.R.Roll.spare a.roll.now) _ _ _ _ before after (ap request_of (sym c.in-Withdraw.is)) refl (same_lines (g.R.Roll.lines a.roll.now) earlier before after is is')
+          (withdraws-on (g.C.Charge.meaning a.self.now.charge) t h a.self.now a.journal.now before (g.R.Roll.spare a.roll.now) account c.in-Withdraw.written.month c.in-Withdraw.written.count);
+    }
+
+pub returns-in_default : goal.returns-in_default
+returns-in_default g c =
+    let a = c.args in
+    record {
+      kept = behind (g.R.Roll.lines a.roll.now);
+      law = λ t h earlier before after is is' account.
+          renamed (g.C.Charge.meaning a.self.now.charge) t h a.self.now a.journal.now (g.R.Roll.spare a.roll.now) _ _ _ _ before after (ap request_of (sym c.in-Withdraw.is)) refl (same_lines (g.R.Roll.lines a.roll.now) earlier before after is is')
+          (withdraws-on (g.C.Charge.meaning a.self.now.charge) t h a.self.now a.journal.now before (g.R.Roll.spare a.roll.now) account c.in-Withdraw.written.month c.in-Withdraw.written.count);
     }
 
 pub returns-in-State : goal.returns-in-State

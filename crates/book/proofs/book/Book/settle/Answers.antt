@@ -1,11 +1,11 @@
-use Rattle.std.proofs.Common.{◌≡◌, ℕ, ◌<◌, ◌≤◌, true, false, List, length, get_or, take, set, ℤ, Some, None, Ok, Err, Result, sym, refl, ap, ◌∙◌, append-nil, arith, rules}
+use Rattle.std.proofs.Common.{◌≡◌, ◌<◌, ◌≤◌, List, length, get_or, take, set, ℤ, Some, None, Ok, Err, Result, sym, refl, ap, ◌∙◌, append-nil, arith, rules}
 use Rattle.std.proofs.lemmas.List.{length-take-le}
 use Rattle.std.proofs.lemmas.Result.{err_from_is_err_and}
 use Rattle.book.specs.Answers.{nets_in}
 use Rattle.book.specs.Books.{areas_of, mark_of}
 use Rattle.book.specs.Calls.{count_of, entries_in}
 use Rattle.book.specs.Faults.{refusal}
-use Rattle.book.specs.Postings.{posting_in, lines_of}
+use Rattle.book.specs.Postings.{posting_in}
 use Rattle.book.specs.Workings.{Refusal, plain, less, worked_out}
 use Rattle.book.proofs.Postable.{untouched, new-denied, old-denied, short, granted, mark-kept, mark_set, lines_long}
 use Rattle.book.proofs.Differences.{length-less}

@@ -1,4 +1,4 @@
-use Rattle.std.proofs.Common.{◌≡◌, ◌+◌, ◌<◌, ◌++◌, length, get_or, take, drop, set, pos, sym, refl, ap, ◌∙◌, zero-add, arith, w64, SFits, to_z, of_z, rules}
+use Rattle.std.proofs.Common.{◌≡◌, ◌++◌, get_or, take, drop, set, pos, sym, refl, ap, ◌∙◌, zero-add, arith, w64, SFits, to_z, of_z, rules}
 use lib.Seq.{paste}
 use Rattle.std.proofs.lemmas.List.Edits.{paste_more}
 use Rattle.std.proofs.lemmas.Int.{to_z-of_z}
