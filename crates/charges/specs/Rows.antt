@@ -1,6 +1,6 @@
 -- What a month's table says of its owners, what that adds up to, and the limits it keeps.
 use Rattle.std.specs.Prelude.{ℕ, ◌+◌, ◌≤◌, cond, List, map, length, ℤ, pos, ◌+ℤ◌, sum_by, ◌==◌, unsigned_abs}
-use Rattle.std.specs.List.{AllByRecursion as All}
+use Rattle.std.specs.List.{AllByRecursion}
 use Rattle.division.specs.Shares.{int_sum}
 use Rattle.charges.specs.declared.table.OwnerRow.{OwnerRow}
 
@@ -58,6 +58,6 @@ required_size rows = ehv_size rows + nhv_size rows
 pub record Good (rows : List OwnerRow) : Type 0 where
   pub some : 1 ≤ length rows
   pub few : length rows ≤ 16
-  pub within : All RowWithin rows
+  pub within : AllByRecursion RowWithin rows
   pub existing : ehv_size rows ≤ 2000000000
   pub required : required_size rows ≤ 3000000000

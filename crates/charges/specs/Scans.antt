@@ -1,7 +1,7 @@
 -- The steps of a loop that looks for an element with a property.
 use Rattle.std.specs.Prelude.{◌≡◌, ℕ, zero, suc, ◌+◌, ◌<◌, ◌≤◌, Bool, true, false, cond, ◌||◌, List, [], ◌∷◌, length, drop, Some, None, Option, slice_index_or, refl}
 use Rattle.std.proofs.Common.{sym, ap, subst, ◌∙◌, add-zero, zero-add, add-one, arith}
-use Rattle.std.specs.List.{AllByRecursion as All}
+use Rattle.std.specs.List.{AllByRecursion}
 use Rattle.std.proofs.lemmas.List.{at_drop_more, at_drop_all}
 use Rattle.std.proofs.lemmas.Bool.{or_parts, cond-true, cond-false}
 use Rattle.charges.specs.Checks.{Check, first_fault, any_by, each_from}
@@ -20,7 +20,7 @@ pub any_none : {X : Type 0} (has : X → Bool) (xs : List X) (i : ℕ) → lengt
 any_none has xs i h inv = sym (at_drop_all (any_by has) xs i h) ∙ inv
 
 -- where none has the property, each lacks it
-pub each-lacks : {X : Type 0} (has : X → Bool) (xs : List X) → any_by has xs ≡ false → All (λ x. has x ≡ false) xs
+pub each-lacks : {X : Type 0} (has : X → Bool) (xs : List X) → any_by has xs ≡ false → AllByRecursion (λ x. has x ≡ false) xs
 each-lacks has [] e = tt
 each-lacks has (x ∷ xs) e = let p = or_parts (has x) (any_by has xs) e in (p.0, each-lacks has xs p.1)
 

@@ -1,6 +1,6 @@
 -- How large the sums of lines can get.
 use Rattle.std.proofs.Common.{◌≡◌, ℕ, ◌+◌, ◌*◌, ◌≤◌, Bool, true, false, cond, List, [], ◌∷◌, length, ℤ, pos, ◌+ℤ◌, nat_abs, arith}
-use Rattle.std.specs.List.{AllByRecursion as All}
+use Rattle.std.specs.List.{AllByRecursion}
 use Rattle.std.proofs.lemmas.Int.{ints}
 use Rattle.std.proofs.lemmas.List.Sums.{sum_by-cons, count_by-le-length}
 use Rattle.rolls.specs.Rows.{Row, WithinRow}
@@ -21,7 +21,7 @@ own-bound : (b : Bool) (z : ℤ) → nat_abs z ≤ most → nat_abs (cond b z (p
 own-bound true z h = omega arith
 own-bound false z h = omega arith
 
-pub sum_bound : (month owner : ℕ) (rows : List Row) → All WithinRow rows → nat_abs (sum_of month owner rows) ≤ count_of month owner rows * most
+pub sum_bound : (month owner : ℕ) (rows : List Row) → AllByRecursion WithinRow rows → nat_abs (sum_of month owner rows) ≤ count_of month owner rows * most
 sum_bound month owner [] h = omega arith
 sum_bound month owner (r ∷ rows) h =
     omega (arith, unsigned_abs-add (cond (of month owner r) r.cents (pos 0)) (sum_of month owner rows), own-bound (of month owner r) r.cents h.0.4, sum_bound month owner rows h.1, counted month owner r rows)
@@ -29,7 +29,7 @@ sum_bound month owner (r ∷ rows) h =
 pub count-bound : (month owner : ℕ) (rows : List Row) → count_of month owner rows ≤ length rows
 count-bound month owner rows = count_by-le-length (of month owner) rows
 
-pub room-left : (s : Sums) (rows : List Row) → Tallied s rows → All WithinRow rows → length rows ≤ 2426 → Room s
+pub room-left : (s : Sums) (rows : List Row) → Tallied s rows → AllByRecursion WithinRow rows → length rows ≤ 2426 → Room s
 room-left s rows t within few = record {
   cents = λ m o hm ho. rw (t.cents m o hm ho) (omega (arith, sum_bound m o rows within, count-bound m o rows));
   lines = λ m o hm ho. rw (t.lines m o hm ho) (omega (arith, count-bound m o rows));

@@ -1,6 +1,6 @@
 -- An archive read record by record.
 use Rattle.std.proofs.Common.{◌≡◌, ℕ, zero, suc, ◌+◌, ◌-◌, ◌*◌, ◌<◌, ◌≤◌, List, [], ◌∷◌, ◌++◌, length, drop, Some, None, Ok, Err, sym, refl, ap, ◌∙◌, append_assoc, add-one, arith, length-drop}
-use Rattle.std.specs.List.{AllByRecursion as All}
+use Rattle.std.specs.List.{AllByRecursion}
 use Rattle.std.proofs.ByRecursion.{All-push}
 use Rattle.std.proofs.lemmas.List.{append-nil, drop-drop, length_push}
 use Rattle.rolls.specs.Rows.{Row, WithinRow}
@@ -17,7 +17,7 @@ pub record Counted (bs : List ℕ) (place : ℕ) (s : Sums) : Type 0 where
   pub rows : List Row
   pub reached : place * 27 ≤ length bs
   pub many : length rows ≡ place
-  pub within : All WithinRow rows
+  pub within : AllByRecursion WithinRow rows
   pub sums : Tallied s rows
   pub whole : contents bs ≡ after rows (contents_from (length bs - place) place (drop (place * 27) bs))
 

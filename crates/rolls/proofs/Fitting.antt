@@ -1,7 +1,7 @@
 -- The text of a summary fits its page.
 use Rattle.std.proofs.Common.{◌≡◌, ℕ, zero, suc, ◌+◌, ◌*◌, ◌^◌, ◌<◌, ◌≤◌, Bool, true, false, cond, ◌&&◌, eqb, ltb, List, [], ◌∷◌, ◌++◌, length, drop, ℤ, pos, negsuc, nat_abs, Some, None, codes, sym, refl, ap, ◌∙◌, arith, length-append, take-append-drop}
 use lib.Signed.{mag}
-use Rattle.std.specs.List.{AllByRecursion as All}
+use Rattle.std.specs.List.{AllByRecursion}
 use Rattle.std.proofs.lemmas.Fmt.{length-decimal-le, length_signed_le}
 use Rattle.std.proofs.lemmas.List.Sums.{sum_by-cons}
 use Rattle.std.proofs.lemmas.Bool.{lt-ltb, le-ltb}
@@ -105,7 +105,7 @@ unfolding sum_to
 length-row zero f g h = omega (arith, ap length (up_to-none f))
 length-row (suc n) f g h = omega (arith, length-up_to n f, length-row n f g (λ k lt. h k (omega arith)), h n (omega arith))
 
-pub length-pair_lines : (rows : List Row) → All WithinRow rows → length rows ≤ 2427 → length (pair_lines rows) ≤ 24 * length rows
+pub length-pair_lines : (rows : List Row) → AllByRecursion WithinRow rows → length rows ≤ 2427 → length (pair_lines rows) ≤ 24 * length rows
 unfolding pairs
 length-pair_lines rows within few =
     let line : (m o : ℕ) → m < 360 → o < 16 → length (pair_line rows m o) ≤ 24 * count_of m o rows =

@@ -4,7 +4,7 @@ use native.Mathlib.Nat.{mod-one, one-le-pow, mul-add-div_right, mul-add-mod_self
 use lib.Arith.{mod-mul, digits_div, digits_lt}
 use Rattle.std.proofs.ByRecursion.{All-from_get_or, All-take}
 use Rattle.std.proofs.lemmas.List.{length_push, take_more}
-use Rattle.std.specs.List.{AllByRecursion as All}
+use Rattle.std.specs.List.{AllByRecursion}
 use Rattle.rolls.specs.Numerals.{bytes_of, number}
 
 pub length-bytes_of : (w n : ℕ) → length (bytes_of w n) ≡ w
@@ -30,11 +30,11 @@ bytes_of-above (suc w) c n =
     ap (λ x. x % 256) (mul-add-div_right (power-above w) (c * 256) n) ∙ mul-add-mod_self_right c 256 (n / 256 ^ w) in
     rw up (ap (λ b. b ∷ bytes_of w (c * 256 * 256 ^ w + n)) head ∙ ap (λ bs. n / 256 ^ w % 256 ∷ bs) (bytes_of-above w (c * 256) n))
 
-pub number-below : (bs : List ℕ) → All (λ b. b < 256) bs → number bs < 256 ^ length bs
+pub number-below : (bs : List ℕ) → AllByRecursion (λ b. b < 256) bs → number bs < 256 ^ length bs
 number-below [] h = omega arith
 number-below (b ∷ bs) h = rw (pow-suc, mul_comm (256 ^ length bs) 256) (digits_lt h.0 (number-below bs h.1))
 
-pub bytes_of-number : (bs : List ℕ) → All (λ b. b < 256) bs → bytes_of (length bs) (number bs) ≡ bs
+pub bytes_of-number : (bs : List ℕ) → AllByRecursion (λ b. b < 256) bs → bytes_of (length bs) (number bs) ≡ bs
 bytes_of-number [] h = refl
 bytes_of-number (b ∷ bs) h =
     let first : (b * 256 ^ length bs + number bs) / 256 ^ length bs % 256 ≡ b =
@@ -50,7 +50,7 @@ number-back w n h = number-bytes_of w n ∙ mod-eq_of_lt h
 pub two_bytes : (n : ℕ) → (n / 256 % 256) ∷ (n % 256) ∷ [] ≡ bytes_of 2 n
 two_bytes n = ap (λ x. (n / 256 % 256) ∷ (x % 256) ∷ []) (sym (div-one n))
 
-pub all-bytes : (bs : List ℕ) → ((i : ℕ) → get_or bs i 0 < 256) → All (λ b. b < 256) bs
+pub all-bytes : (bs : List ℕ) → ((i : ℕ) → get_or bs i 0 < 256) → AllByRecursion (λ b. b < 256) bs
 all-bytes bs h = All-from_get_or (λ b. b < 256) bs 0 (λ i _. h i)
 
 pub number_push : (bs : List ℕ) (b : ℕ) → number (bs ++ b ∷ []) ≡ number bs * 256 + b

@@ -1,7 +1,7 @@
 -- Archives as lists of rows, and back.
 use Rattle.std.proofs.Common.{◌≡◌, ℕ, zero, suc, ◌+◌, ◌*◌, ◌<◌, ◌≤◌, List, [], ◌∷◌, ◌++◌, length, take, drop, Some, Ok, Err, Result, sym, refl, ap, ◌∙◌, subst, append_assoc, arith, length-append, take-append-drop}
 use lib.Seq.{paste}
-use Rattle.std.specs.List.{AllByRecursion as All, slice_get}
+use Rattle.std.specs.List.{AllByRecursion, slice_get}
 use Rattle.std.proofs.lemmas.List.{drop-drop, drop-take, take_at, append-nil, take-take, length_push}
 use Rattle.std.proofs.lemmas.List.Edits.{length-paste}
 use Rattle.std.proofs.ByRecursion.{All-push}
@@ -30,7 +30,7 @@ pub length-rows_in : (n : ℕ) (bs : List ℕ) → length (rows_in n bs) ≡ n
 length-rows_in zero bs = refl
 length-rows_in (suc n) bs = ap suc (length-rows_in n (drop 27 bs))
 
-pub rows_in-archived : (rs : List Row) (rest : List ℕ) → All WithinRow rs → rows_in (length rs) (archived rs ++ rest) ≡ rs
+pub rows_in-archived : (rs : List Row) (rest : List ℕ) → AllByRecursion WithinRow rs → rows_in (length rs) (archived rs ++ rest) ≡ rs
 rows_in-archived [] rest h = refl
 rows_in-archived (r ∷ rs) rest h =
     ap (λ x. x ∷ rows_in (length rs) (archived rs ++ rest)) (row_back r h.0 (archived rs ++ rest)) ∙ ap (λ xs. r ∷ xs) (rows_in-archived rs rest h.1)
@@ -41,11 +41,11 @@ row_at-more bs i =
     let at : suc i * 27 ≡ 27 + i * 27 = omega arith in
     rw at (ap row_in (sym (drop-drop (i * 27) 27 bs)))
 
-pub all-rows_in : (n : ℕ) (bs : List ℕ) → AllWithin n bs → All WithinRow (rows_in n bs)
+pub all-rows_in : (n : ℕ) (bs : List ℕ) → AllWithin n bs → AllByRecursion WithinRow (rows_in n bs)
 all-rows_in zero bs h = tt
 all-rows_in (suc n) bs h = (h 0 (omega arith), all-rows_in n (drop 27 bs) (λ i lt. subst WithinRow (row_at-more bs i) (h (suc i) (omega arith))))
 
-pub rows_in-all : (n : ℕ) (bs : List ℕ) → All WithinRow (rows_in n bs) → AllWithin n bs
+pub rows_in-all : (n : ℕ) (bs : List ℕ) → AllByRecursion WithinRow (rows_in n bs) → AllWithin n bs
 rows_in-all zero bs h i lt = absurd (omega arith)
 rows_in-all (suc n) bs h zero lt = h.0
 rows_in-all (suc n) bs h (suc i) lt = subst WithinRow (sym (row_at-more bs i)) (rows_in-all n (drop 27 bs) h.1 i (omega arith))
@@ -80,7 +80,7 @@ module _ (n : ℕ) (xs ys : List ℕ) (lines : take (n * 27) xs ≡ archived (ro
   kept-lines = same ∙ lines ∙ ap archived (sym kept-rows)
 
   pub kept-within : AllWithin n ys
-  kept-within = rows_in-all n ys (subst (All WithinRow) (sym kept-rows) (all-rows_in n xs within))
+  kept-within = rows_in-all n ys (subst (AllByRecursion WithinRow) (sym kept-rows) (all-rows_in n xs within))
 
 -- one record more behind the first n
 module _ (n : ℕ) (xs : List ℕ) (x : Row) (lines : take (n * 27) xs ≡ archived (rows_in n xs)) (within : AllWithin n xs) (fits : WithinRow x) where
@@ -90,7 +90,7 @@ module _ (n : ℕ) (xs : List ℕ) (x : Row) (lines : take (n * 27) xs ≡ archi
   abbrev rows : List Row
   rows = rows_in n xs ++ x ∷ []
 
-  all-rows : All WithinRow rows
+  all-rows : AllByRecursion WithinRow rows
   all-rows = All-push WithinRow (rows_in n xs) x (all-rows_in n xs within) fits
 
   length-rows : length rows ≡ n + 1
@@ -115,7 +115,7 @@ module _ (n : ℕ) (xs : List ℕ) (x : Row) (lines : take (n * 27) xs ≡ archi
   more-lines = ap (take ((n + 1) * 27)) laid ∙ take_at (archived rows) (drop ((n + 1) * 27) xs) ((n + 1) * 27) length-bytes ∙ ap archived (sym more_rows)
 
   pub more_within : AllWithin (n + 1) more
-  more_within = rows_in-all (n + 1) more (subst (All WithinRow) (sym more_rows) all-rows)
+  more_within = rows_in-all (n + 1) more (subst (AllByRecursion WithinRow) (sym more_rows) all-rows)
 
   pub more-untouched : more ≡ archived (rows_in (n + 1) more) ++ drop (length (archived (rows_in (n + 1) more))) xs
   more-untouched = laid ∙ ap (λ k. archived rows ++ drop k xs) (sym length-bytes) ∙ ap (λ rs. archived rs ++ drop (length (archived rs)) xs) (sym more_rows)

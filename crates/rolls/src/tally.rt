@@ -1,6 +1,6 @@
 // Adding up the lines of an archive.
 ghost use Rattle.std.specs.Prelude.{◌≡◌, ◌≤◌, List, [], ◌∷◌, ◌++◌, length};
-ghost use Rattle.std.specs.List.{AllByRecursion as All};
+ghost use Rattle.std.specs.List.{AllByRecursion};
 ghost use Rattle.rolls.specs.Meaning.{row};
 ghost use Rattle.rolls.specs.Rows.{Row, WithinRow};
 ghost use Rattle.rolls.specs.Summaries.{contents};
@@ -38,7 +38,7 @@ pub(crate) fn tally(archive: &[u8], sums: &mut Sums) -> Result<usize, ArchiveFau
     requires empty { Tallied sums.old [] }
     ensures ends { Ends result (contents archive.now) }
     ensures sums { Tallied sums.new (contents archive.now).rows }
-    ensures within { All WithinRow (contents archive.now).rows }
+    ensures within { AllByRecursion WithinRow (contents archive.now).rows }
     ensures few { length (contents archive.now).rows ≤ 2427 }
 {
     let mut place = 0;

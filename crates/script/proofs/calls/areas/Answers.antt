@@ -21,7 +21,7 @@ loop-i-preserved c =
     c.loop-i.invariant
     ∙ (at_drop_more (areas_from front) ns i nought c.loop-i-test.true
     ∙ (sym (ap (λ r. and_then r (λ area. areas_from (front ++ area ∷ []) (drop (i + 1) ns))) c.in-Ok.ensures)
-    ∙ ap (λ v. areas_from v (drop (i + 1) ns)) (sym c.in_ok-push.ensures.items)))
+    ∙ ap (λ v. areas_from v (drop (i + 1) ns)) (sym c.in_ok-push-in-Ok.ensures.items)))
 
 pub returns : goal.returns
 returns c = c.loop-i.invariant ∙ at_drop_all (areas_from (vec_items c.loop-i.areas)) c.args.numbers.now c.loop-i.i c.loop-i-test.false

@@ -13,7 +13,7 @@ returns-then-word-eq45 c =
     let rest : take (length ws - 1) (drop 1 ws) ≡ drop 1 ws = take_all (length ws - 1) (drop 1 ws) (simp length-drop (omega arith)) in
     record {
       value = c.signed.ensures ∙ (ap (λ l. option_map kept (option_map (sized true) (digits_of l))) rest ∙ sym (ap (option_map kept) (below ws c.if-word-gt0.true c.if-word-eq45.true)));
-      kept-suffices = kept-suffices;
+      kept_suffices = kept-suffices;
     }
 
 pub returns : goal.returns
@@ -23,4 +23,4 @@ returns c =
     c.args.word.now
     (λ some is.
     elim c.else-word-gt0.branch [ else-word-gt0-via-then-word-gt0+else-word-eq45 w ↦ omega (arith, w.if-word-eq45.false) | else-word-gt0-via-else-word-gt0 w ↦ omega (arith, w.if-word-gt0.false) ]) in
-    record { value = c.signed-2.ensures ∙ sym (ap (option_map kept) other); kept-suffices = kept-suffices }
+    record { value = c.signed-2.ensures ∙ sym (ap (option_map kept) other); kept_suffices = kept-suffices }

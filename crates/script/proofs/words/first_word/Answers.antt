@@ -19,6 +19,6 @@ returns c =
       words =
           spaces-part-nothing ls
           ∙ (word_first [] d ∙ sym (ap (λ f. ended f (words_of c.split_at.result.1.now)) front ∙ ap (λ b. ended (take n d) (words_of b)) back));
-      none = λ z. no_word ls (omega (arith, z, c.split_at.ensures.front-len, cut));
+      none = λ z. no_word ls (omega (arith, z, c.split_at.ensures.front_len, cut));
       shorter = search rules;
     }
