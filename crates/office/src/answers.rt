@@ -2,11 +2,11 @@
 use crate::refusal::refusal_of;
 use book::{BookFault, Call, Reply, State};
 use rolls::{ArchiveRoll, Roll};
-use std::fmt;
+use std::alloc::AllocError;
 use std::fmt::Write;
 
 // The entry's number, behind what was entered.
-fn lay_entered(text: &mut String, call: &Call, number: usize) -> fmt::Result {
+fn lay_entered(text: &mut String, call: &Call, number: usize) -> Result<(), AllocError> {
     match call {
         Call::File { .. } => writeln!(text, "filed {number}"),
         _ => writeln!(text, "read {number}"),
@@ -20,7 +20,7 @@ fn lay_opened(
     month: u16,
     count: u16,
     draft: &[i64; 16],
-) -> fmt::Result {
+) -> Result<(), AllocError> {
     write!(text, "opened {month} {count}")?;
     for net in draft.iter().take(owners) {
         write!(text, " {net}")?;
@@ -29,7 +29,7 @@ fn lay_opened(
 }
 
 // What became of an opening that a call wrote down.
-fn lay_ended(text: &mut String, ended: &str, call: &Call) -> fmt::Result {
+fn lay_ended(text: &mut String, ended: &str, call: &Call) -> Result<(), AllocError> {
     match call {
         Call::Post(written) | Call::Withdraw(written) => {
             let month = written.month();
@@ -40,7 +40,7 @@ fn lay_ended(text: &mut String, ended: &str, call: &Call) -> fmt::Result {
     }
 }
 
-fn lay_state(text: &mut String, call: &Call, state: State) -> fmt::Result {
+fn lay_state(text: &mut String, call: &Call, state: State) -> Result<(), AllocError> {
     let Call::State { month } = *call else {
         return Ok(());
     };
@@ -57,7 +57,7 @@ fn lay_answer(
     owners: usize,
     call: &Call,
     answer: &Result<Reply, BookFault>,
-) -> fmt::Result {
+) -> Result<(), AllocError> {
     match *answer {
         Ok(Reply::Entered { number }) => lay_entered(text, call, number),
         Ok(
@@ -83,7 +83,7 @@ pub(crate) fn lay_answers(
     owners: usize,
     calls: &[Call],
     answers: &[Result<Reply, BookFault>],
-) -> fmt::Result {
+) -> Result<(), AllocError> {
     for (call, answer) in calls.iter().zip(answers.iter()) {
         lay_answer(text, owners, call, answer)?;
     }
@@ -91,7 +91,7 @@ pub(crate) fn lay_answers(
 }
 
 // The roll's lines, behind their count.
-pub(crate) fn lay_lines(text: &mut String, roll: &ArchiveRoll<'_>) -> fmt::Result {
+pub(crate) fn lay_lines(text: &mut String, roll: &ArchiveRoll<'_>) -> Result<(), AllocError> {
     let count = roll.written().len() / 27;
     writeln!(text, "lines {count}")?;
     for place in 0..count {

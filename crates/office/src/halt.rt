@@ -2,7 +2,6 @@
 use book::BookFault;
 use charges::SettingFault;
 use std::alloc::AllocError;
-use std::fmt;
 
 #[derive(Clone, Copy)]
 pub(crate) enum Halt {
@@ -10,7 +9,7 @@ pub(crate) enum Halt {
     SetUp(BookFault),
     // A charge refused its setting.
     Setting,
-    Memory,
+    Memory(AllocError),
 }
 
 impl From<BookFault> for Halt {
@@ -26,14 +25,7 @@ impl From<SettingFault> for Halt {
 }
 
 impl From<AllocError> for Halt {
-    fn from(_error: AllocError) -> Halt {
-        Halt::Memory
-    }
-}
-
-// Text is laid out in memory alone.
-impl From<fmt::Error> for Halt {
-    fn from(_error: fmt::Error) -> Halt {
-        Halt::Memory
+    fn from(error: AllocError) -> Halt {
+        Halt::Memory(error)
     }
 }

@@ -80,7 +80,7 @@ fn set_up_number(script: &Script, halt: Halt) -> Result<u8, AllocError> {
                 Err(fault) => Ok(refusal_of(fault).number),
             }
         }
-        Halt::Memory => Err(AllocError),
+        Halt::Memory(error) => Err(error),
     }
 }
 
