@@ -2,6 +2,7 @@
 use crate::helpers::*;
 use book::{Book, BookFault};
 use charges::{ChargeFault, Volumetric};
+use std::test::Fail;
 
 #[test]
 fn nets_of_the_worked_month(rt: HostRuntime) -> Result<(), Fail> {

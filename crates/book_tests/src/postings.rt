@@ -4,6 +4,7 @@ use book::{Book, BookFault, Entry, Opening, State};
 use charges::{Hybrid, Volumetric};
 use rolls::{ArchiveRoll, Roll, TableRoll};
 use std::process::Abort;
+use std::test::Fail;
 
 // The worked month billed at 6 entries and corrected at 7.
 fn worked_month<R: Roll>(

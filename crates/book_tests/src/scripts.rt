@@ -3,6 +3,7 @@ use crate::helpers::*;
 use book::{BookFault, Call, Reply, State, Written, replay};
 use charges::Volumetric;
 use rolls::{Roll, TableRoll};
+use std::test::Fail;
 
 fn file(owner: u8, ehv: i64, nhv: i64, load: u32, peak: u32) -> Call {
     Call::File {
