@@ -55,6 +55,13 @@ impl Written {
             spent: false,
         })
     }
+
+    // Withdraws that opening.
+    fn withdraw(self) {
+        if let Some(opening) = self.opening() {
+            opening.withdraw();
+        }
+    }
 }
 
 impl<C: Charge> Book<C> {
@@ -119,9 +126,7 @@ impl<C: Charge> Book<C> {
             Call::Open { month } => self.open_written(journal, month),
             Call::Post(written) => posted(self.post_written(journal, roll, written)),
             Call::Withdraw(written) => {
-                if let Some(opening) = written.opening() {
-                    opening.withdraw();
-                }
+                written.withdraw();
                 Ok(Reply::Withdrawn)
             }
             Call::State { month } => told(self.state(journal, month)),

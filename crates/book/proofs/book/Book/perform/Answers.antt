@@ -46,18 +46,8 @@ returns-in-Post g c =
           renamed _ t h _ a.journal.now _ _ _ _ _ after after (ap request_of (sym c.in-Post.is)) (sym c.posted.ensures) refl (p.law t h earlier before after is is' account);
     }
 
-pub returns-in-Some : goal.returns-in-Some
-returns-in-Some g c =
-    let a = c.args in
-    record {
-      kept = behind (g.R.Roll.lines a.roll.now);
-      law = λ t h earlier before after is is' account.
-          renamed (g.C.Charge.meaning a.self.now.charge) t h a.self.now a.journal.now (g.R.Roll.spare a.roll.now) _ _ _ _ before after (ap request_of (sym c.in-Withdraw.is)) refl (same_lines (g.R.Roll.lines a.roll.now) earlier before after is is')
-          (withdraws-on (g.C.Charge.meaning a.self.now.charge) t h a.self.now a.journal.now before (g.R.Roll.spare a.roll.now) account c.in-Withdraw.written.month c.in-Withdraw.written.count);
-    }
-
-pub returns-in_default : goal.returns-in_default
-returns-in_default g c =
+pub returns-in-Withdraw : goal.returns-in-Withdraw
+returns-in-Withdraw g c =
     let a = c.args in
     record {
       kept = behind (g.R.Roll.lines a.roll.now);
