@@ -1,5 +1,5 @@
 -- The text of a summary fits its page.
-use Rattle.std.proofs.Common.{◌≡◌, ℕ, zero, suc, ◌+◌, ◌*◌, ◌^◌, ◌<◌, ◌≤◌, Bool, true, false, cond, ◌&&◌, eqb, ltb, List, [], ◌∷◌, ◌++◌, length, drop, ℤ, pos, negsuc, nat_abs, Some, None, codes, sym, refl, ap, ◌∙◌, arith, length-append, take-append-drop}
+use Rattle.std.proofs.Common.{◌≡◌, ℕ, zero, suc, ◌+◌, ◌*◌, ◌^◌, ◌<◌, ◌≤◌, Bool, true, false, cond, ◌&&◌, eqb, ltb, List, [], ◌∷◌, ◌++◌, length, get_or, take, drop, ℤ, pos, negsuc, nat_abs, Some, None, codes, sym, refl, ap, ◌∙◌, arith, take-append-drop}
 use lib.Signed.{mag}
 use Rattle.std.specs.List.{AllByRecursion}
 use Rattle.std.proofs.lemmas.Fmt.{length-decimal-le, length_signed_le}
@@ -9,10 +9,11 @@ use Rattle.std.proofs.lemmas.Bool.Decides.{nat_tests}
 use Rattle.rolls.specs.Rows.{Row, WithinRow}
 use Rattle.rolls.specs.Summaries.{of, sum_of, count_of, pair_text, pair_line, pair_lines, month_lines, up_to, closing, contents, page_text, summary_text}
 use Rattle.rolls.specs.Meaning.{refusal}
-use Rattle.rolls.specs.Pages.{Wrote}
-use Rattle.rolls.specs.Tallies.{Tallied, slot_line, slot_lines, all_lines}
+use Rattle.rolls.specs.Pages.{Fits, Lays}
+use Rattle.rolls.specs.Tallies.{Tallied, sum_at, sum_line, month_sums, all_sums}
 use Rattle.rolls.specs.declared.fault.ArchiveFault.{ArchiveFault}
 use Rattle.rolls.specs.declared.fault.ArchiveFault.TheVariants.{Short, Heading, Value}
+use Rattle.rolls.specs.declared.page.Page.{Page}
 use Rattle.rolls.specs.declared.sums.Sums.{Sums}
 use Rattle.rolls.proofs.Bounds.{sum_bound, count-bound}
 use Rattle.rolls.proofs.Writing.{length-pair_text, up_to-none, up_to-same, length-up_to, length-ended, length-stopped}
@@ -44,8 +45,7 @@ sum_to-point a zero = omega arith
 sum_to-point a (suc n) = let less = sum_to-point a n in grind (arith, nat_tests)
 
 at_most_one : (b : Bool) → cond b 1 0 ≤ 1
-at_most_one true = omega arith
-at_most_one false = omega arith
+at_most_one b = grind arith
 
 -- a row is of at most one owner in its month, and of none in another
 own-month : (month : ℕ) (r : Row) → sum_to 16 (λ o. cond (of month o r) 1 0) ≤ cond (eqb r.month month) 1 0
@@ -79,26 +79,24 @@ mag-le : (z : ℤ) → mag z ≤ nat_abs z
 mag-le (pos n) = omega arith
 mag-le (negsuc n) = omega arith
 
--- a pair's line has at most 24 bytes for each of its rows
-text-length : (n month owner : ℕ) (z : ℤ) → month < 360 → owner < 16 → nat_abs z ≤ n * 800000000000000 → n ≤ 2427 → length (cond (ltb 0 n) (pair_text month owner z) []) ≤ 24 * n
-text-length zero month owner z hm ho bound few = omega arith
-text-length (suc zero) month owner z hm ho bound few =
+-- a line's length, by the digits of its sum
+length-line : (digits month owner : ℕ) (z : ℤ) → month < 360 → owner < 16 → nat_abs z + 1 < 10 ^ digits → nat_abs z < 2 ^ 63 → length (pair_text month owner z) ≤ 9 + digits
+length-line digits month owner z hm ho small fits =
     omega (
       arith,
       length-pair_text month owner z,
       length-decimal-le 3 month (omega arith) (omega arith) (omega arith),
       length-decimal-le 2 owner (omega arith) (omega arith) (omega arith),
-      length_signed_le 15 z (omega (arith, mag-le z)) (omega (arith, mag-le z)),
+      length_signed_le digits z (omega (arith, mag-le z)) (omega (arith, mag-le z)),
     )
+
+-- a pair's line has at most 24 bytes for each of its rows
+text-length : (n month owner : ℕ) (z : ℤ) → month < 360 → owner < 16 → nat_abs z ≤ n * 800000000000000 → n ≤ 2427 → length (cond (ltb 0 n) (pair_text month owner z) []) ≤ 24 * n
+text-length zero month owner z hm ho bound few = omega arith
+text-length (suc zero) month owner z hm ho bound few = length-line 15 month owner z hm ho (omega arith) (omega arith)
 text-length (suc (suc n)) month owner z hm ho bound few =
     let some : ltb 0 (suc (suc n)) ≡ true = lt-ltb 0 (suc (suc n)) (omega arith) in
-    rw some (omega (
-      arith,
-      length-pair_text month owner z,
-      length-decimal-le 3 month (omega arith) (omega arith) (omega arith),
-      length-decimal-le 2 owner (omega arith) (omega arith) (omega arith),
-      length_signed_le 19 z (omega (arith, mag-le z)) (omega (arith, mag-le z)),
-    ))
+    rw some (omega (arith, length-line 19 month owner z hm ho (omega arith) (omega arith)))
 
 length-row : (n : ℕ) (f : ℕ → List ℕ) (g : ℕ → ℕ) → ((k : ℕ) → k < n → length (f k) ≤ 24 * g k) → length (up_to n f) ≤ 24 * sum_to n g
 unfolding sum_to
@@ -114,24 +112,35 @@ length-pair_lines rows within few =
     omega (arith, length-row 360 (month_lines rows) (λ m. sum_to 16 (λ o. count_of m o rows)) month, pairs-bound rows)
 
 -- the page's lines as the sums give them
-pub all_lines-are : (s : Sums) (rows : List Row) → Tallied s rows → all_lines s ≡ pair_lines rows
-all_lines-are s rows t =
-    up_to-same 360 (slot_lines s) (month_lines rows) (λ m hm. up_to-same 16 (slot_line s m) (pair_line rows m) (λ o ho. line m o hm ho))
+pub all_sums-are : (s : Sums) (rows : List Row) → Tallied s rows → all_sums s ≡ pair_lines rows
+all_sums-are s rows t =
+    up_to-same 360 (λ m. month_sums m (get_or s.months m [])) (month_lines rows) (λ m hm. up_to-same 16 (λ o. sum_line m o (sum_at s m o)) (pair_line rows m) (λ o ho. ap (sum_line m o) (t.sums m o hm ho) ∙ line (ltb 0 (count_of m o rows)) m o (sum_of m o rows)))
   where
-    line : (m o : ℕ) → m < 360 → o < 16 → slot_line s m o ≡ pair_line rows m o
-    line m o hm ho = rw (t.cents m o hm ho, t.lines m o hm ho)
+    line : (b : Bool) (m o : ℕ) (z : ℤ) → sum_line m o (cond b (Some z) None) ≡ cond b (pair_text m o z) []
+    line true m o z = refl
+    line false m o z = refl
 
 -- text that is laid at the start of a page
-pub laid-first : (page text after : List ℕ) (to : ℕ) → Wrote page 0 text after to → (to ≡ length text) × (after ≡ text ++ drop to page) × (to ≤ length page)
-laid-first page text after to w =
-    let count : to ≡ length text = omega (arith, w.end) in
-    let whole : after ≡ text ++ drop to page = sym (take-append-drop to after) ∙ ap (λ xs. xs ++ drop to after) w.front ∙ ap (λ xs. text ++ xs) w.rest in
-    (count, whole, omega (arith, w.long, ap length whole, length-append text (drop to page)))
+pub laid-first : (p q : Page) (text : List ℕ) → p.end ≡ 0 → Lays p text q → (q.end ≡ length text) × (q.bytes.now ≡ text ++ drop q.end p.bytes.now) × (q.end ≤ length p.bytes.now)
+laid-first p q text none w =
+    let count : q.end ≡ length text = omega (arith, w.end) in
+    let front : take q.end q.bytes.now ≡ text = w.front ∙ ap (λ n. take n p.bytes.now ++ text) none in
+    let whole : q.bytes.now ≡ text ++ drop q.end p.bytes.now = sym (take-append-drop q.end q.bytes.now) ∙ ap (λ xs. xs ++ drop q.end q.bytes.now) front ∙ ap (λ xs. text ++ xs) w.rest in
+    (count, whole, omega (arith, w.long, q.within))
+
+-- behind the heading there is room for the sums of as many rows as are summed, and for the last line
+module _ (p q : Page) (begins : p.end ≡ 0) (long : length p.bytes.now ≡ 65536) (heading : Lays p (codes "month owner cents\n") q) where
+  module _ (s : Sums) (rows : List Row) (t : Tallied s rows) (within : AllByRecursion WithinRow rows) (few : length rows ≤ 2427) where
+    pub sums-fit : Fits q (all_sums s)
+    sums-fit = omega (arith, ap length (all_sums-are s rows t), length-pair_lines rows within few, heading.end, heading.long)
+
+    pub closing-fits : (r : Page) (text : List ℕ) → Lays q (all_sums s) r → length text ≤ 29 → Fits r text
+    closing-fits r text sums short = omega (arith, sums-fit, ap length (all_sums-are s rows t), length-pair_lines rows within few, heading.end, heading.long, sums.end, sums.long)
 
 pub short-archive : (bs : List ℕ) → length bs ≤ 65529 → summary_text bs ≡ page_text (contents bs)
 short-archive bs h = let short : ltb 65529 (length bs) ≡ false = le-ltb 65529 (length bs) h in ap (λ b. cond b (codes "too long\n") (page_text (contents bs))) short
 
-pub length-closing-ended : (n : ℕ) → n < 2 ^ 64 → length (closing n None) ≤ 25
+pub length-closing-ended : (n : ℕ) → n < 2 ^ 64 → length (closing n None) ≤ 29
 length-closing-ended n h = omega (arith, length-ended n, length-decimal-le 20 n (omega arith) (omega arith) h)
 
 number_small : (e : ArchiveFault) → (refusal e).number < 100

@@ -1,9 +1,5 @@
 pub mod Numerals
-pub mod Encoding
-pub mod Reading
-pub mod Wholes
 pub mod Back
-pub mod Places
 pub mod Recorded
 pub mod Writing
 pub mod Adding

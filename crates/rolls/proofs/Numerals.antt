@@ -1,25 +1,14 @@
 -- Bytes and the numbers they write: each determines the other.
-use Rattle.std.proofs.Common.{◌≡◌, ℕ, zero, suc, ◌+◌, ◌*◌, ◌/◌, ◌%◌, ◌^◌, ◌<◌, ◌≤◌, List, [], ◌∷◌, ◌++◌, length, get_or, take, sym, refl, ap, ◌∙◌, mod-eq_of_lt, mul_assoc, mul_comm, pow-suc, div-one, add-one, arith, length-take}
-use native.Mathlib.Nat.{mod-one, one-le-pow, mul-add-div_right, mul-add-mod_self_right, pow-le-pow_right}
-use lib.Arith.{mod-mul, digits_div, digits_lt}
+use Rattle.std.proofs.Common.{◌≡◌, ℕ, zero, suc, ◌+◌, ◌*◌, ◌/◌, ◌%◌, ◌^◌, ◌<◌, ◌≤◌, List, [], ◌∷◌, ◌++◌, length, get_or, take, sym, refl, ap, ◌∙◌, mod-eq_of_lt, mul_assoc, mul_comm, pow-suc, add-one, arith, length-take}
+use native.Mathlib.Nat.{one-le-pow, mul-add-div_right, mul-add-mod_self_right, pow-le-pow_right}
+use lib.Arith.{digits_div, digits_lt}
 use Rattle.std.proofs.ByRecursion.{All-from_get_or, All-take}
 use Rattle.std.proofs.lemmas.List.{length_push, take_more}
 use Rattle.std.specs.List.{AllByRecursion}
 use Rattle.rolls.specs.Numerals.{bytes_of, number}
 
-pub length-bytes_of : (w n : ℕ) → length (bytes_of w n) ≡ w
-length-bytes_of zero n = refl
-length-bytes_of (suc w) n = ap suc (length-bytes_of w n)
-
 power-above : (w : ℕ) → 0 < 256 ^ w
 power-above w = one-le-pow w 256 (omega arith)
-
-pub number-bytes_of : (w n : ℕ) → number (bytes_of w n) ≡ n % 256 ^ w
-number-bytes_of zero n = sym (mod-one n)
-number-bytes_of (suc w) n =
-    let up : 256 ^ suc w ≡ 256 * 256 ^ w = pow-suc 256 w ∙ mul_comm (256 ^ w) 256 in
-    let step : n % (256 * 256 ^ w) ≡ (n / 256 ^ w % 256) * 256 ^ w + n % 256 ^ w = mod-mul n (omega arith) (power-above w) in
-    rw (length-bytes_of w n, number-bytes_of w n, up) (sym step)
 
 -- what stands above the last bytes does not change them
 bytes_of-above : (w c n : ℕ) → bytes_of w (c * 256 ^ w + n) ≡ bytes_of w n
@@ -41,14 +30,6 @@ bytes_of-number (b ∷ bs) h =
     ap (λ x. x % 256) (digits_div b (number-below bs h.1)) ∙ mod-eq_of_lt h.0 in
     ap (λ x. x ∷ bytes_of (length bs) (b * 256 ^ length bs + number bs)) first
     ∙ ap (λ xs. b ∷ xs) (bytes_of-above (length bs) b (number bs) ∙ bytes_of-number bs h.1)
-
--- numbers that fit read back
-pub number-back : (w n : ℕ) → n < 256 ^ w → number (bytes_of w n) ≡ n
-number-back w n h = number-bytes_of w n ∙ mod-eq_of_lt h
-
--- the bytes as the language's own functions give them
-pub two_bytes : (n : ℕ) → (n / 256 % 256) ∷ (n % 256) ∷ [] ≡ bytes_of 2 n
-two_bytes n = ap (λ x. (n / 256 % 256) ∷ (x % 256) ∷ []) (sym (div-one n))
 
 pub all-bytes : (bs : List ℕ) → ((i : ℕ) → get_or bs i 0 < 256) → AllByRecursion (λ b. b < 256) bs
 all-bytes bs h = All-from_get_or (λ b. b < 256) bs 0 (λ i _. h i)

@@ -1,9 +1,11 @@
 -- Archives as lists of rows, and back.
-use Rattle.std.proofs.Common.{◌≡◌, ℕ, zero, suc, ◌+◌, ◌*◌, ◌<◌, ◌≤◌, List, [], ◌∷◌, ◌++◌, length, take, drop, Some, Ok, Err, Result, sym, refl, ap, ◌∙◌, subst, append_assoc, arith, length-append, take-append-drop}
+use Rattle.std.proofs.Common.{◌≡◌, ℕ, zero, suc, ◌+◌, ◌-◌, ◌*◌, ◌<◌, ◌≤◌, List, [], ◌∷◌, ◌++◌, length, take, drop, Some, Ok, Err, Result, sym, refl, ap, ◌∙◌, subst, append_assoc, arith, rules, length-append, take-append-drop}
+use borrow.Rule.Slice.PartMut.{put_mid}
 use lib.Seq.{paste}
 use Rattle.std.specs.List.{AllByRecursion, slice_get}
-use Rattle.std.proofs.lemmas.List.{drop-drop, drop-take, take_at, append-nil, take-take, length_push}
+use Rattle.std.proofs.lemmas.List.{drop-drop, drop-take, take_at, take-take, length_push}
 use Rattle.std.proofs.lemmas.List.Edits.{length-paste}
+use Rattle.std.proofs.lemmas.Slice.{put_mid-paste}
 use Rattle.std.proofs.ByRecursion.{All-push}
 use Rattle.std.specs.Option.{option_map}
 use Rattle.std.specs.Result.{result_ok}
@@ -15,16 +17,13 @@ use Rattle.rolls.specs.Records.{encoded, row_in}
 use Rattle.rolls.specs.Archives.{archived, rows_in, row_at, AllWithin}
 use Rattle.rolls.proofs.Back.{row_back}
 
-pub length-encoded : (r : Row) → length (encoded r) ≡ 27
-length-encoded r = refl
-
 pub length-archived : (rs : List Row) → length (archived rs) ≡ length rs * 27
 length-archived [] = refl
 length-archived (r ∷ rs) = omega (arith, length-append (encoded r) (archived rs), length-archived rs)
 
 pub archived-push : (rs : List Row) (r : Row) → archived (rs ++ r ∷ []) ≡ archived rs ++ encoded r
-archived-push [] r = append-nil (encoded r)
-archived-push (x ∷ rs) r = ap (λ bs. encoded x ++ bs) (archived-push rs r) ∙ sym (append_assoc (encoded x) (archived rs) (encoded r))
+archived-push [] r = search rules
+archived-push (x ∷ rs) r = let rest = archived-push rs r in search (rules, append_assoc)
 
 pub length-rows_in : (n : ℕ) (bs : List ℕ) → length (rows_in n bs) ≡ n
 length-rows_in zero bs = refl
@@ -67,20 +66,6 @@ record-at (suc n) bs (suc i) lt e =
     let behind : take (n * 27) (drop 27 bs) ≡ archived (rows_in n (drop 27 bs)) =
     sym (drop-take 27 (n * 27) bs) ∙ ap (λ k. drop 27 (take k bs)) (sym more) ∙ ap (drop 27) e in
     ap (λ k. take 27 (drop k bs)) at ∙ ap (take 27) (sym (drop-drop (i * 27) 27 bs)) ∙ record-at n (drop 27 bs) i (omega arith) behind ∙ ap encoded (sym (row_at-more bs i))
-
--- bytes that agree on the first n records hold the same rows
-module _ (n : ℕ) (xs ys : List ℕ) (lines : take (n * 27) xs ≡ archived (rows_in n xs)) (within : AllWithin n xs) (same : take (n * 27) ys ≡ take (n * 27) xs) where
-  pub kept-rows : rows_in n ys ≡ rows_in n xs
-  kept-rows =
-      let split : archived (rows_in n xs) ++ drop (n * 27) ys ≡ ys = ap (λ zs. zs ++ drop (n * 27) ys) (sym lines ∙ sym same) ∙ take-append-drop (n * 27) ys in
-      ap (rows_in n) (sym split) ∙ ap (λ k. rows_in k (archived (rows_in n xs) ++ drop (n * 27) ys)) (sym (length-rows_in n xs))
-      ∙ rows_in-archived (rows_in n xs) (drop (n * 27) ys) (all-rows_in n xs within)
-
-  pub kept-lines : take (n * 27) ys ≡ archived (rows_in n ys)
-  kept-lines = same ∙ lines ∙ ap archived (sym kept-rows)
-
-  pub kept-within : AllWithin n ys
-  kept-within = rows_in-all n ys (subst (AllByRecursion WithinRow) (sym kept-rows) (all-rows_in n xs within))
 
 -- one record more behind the first n
 module _ (n : ℕ) (xs : List ℕ) (x : Row) (lines : take (n * 27) xs ≡ archived (rows_in n xs)) (within : AllWithin n xs) (fits : WithinRow x) where
@@ -127,19 +112,20 @@ none-untouched n xs h lines =
     sym (ap (λ k. archived (rows_in n xs) ++ drop k xs) long ∙ ap (λ bs. bs ++ drop (n * 27) xs) (sym lines) ∙ take-append-drop (n * 27) xs)
 
 -- what an archive of n records is once x is laid behind them
-pub record Laid (n : ℕ) (xs : List ℕ) (x : Row) (m : ℕ) (ys : List ℕ) : Type 0 where
-  pub fits : (m + 1) * 27 ≤ length ys
-  pub lines : take ((m + 1) * 27) ys ≡ archived (rows_in (m + 1) ys)
-  pub within : AllWithin (m + 1) ys
-  pub rows : rows_in (m + 1) ys ≡ rows_in n xs ++ x ∷ []
-  pub untouched : ys ≡ archived (rows_in (m + 1) ys) ++ drop (length (archived (rows_in (m + 1) ys))) xs
+pub record Laid (n : ℕ) (xs : List ℕ) (x : Row) (ys : List ℕ) : Type 0 where
+  pub fits : (n + 1) * 27 ≤ length ys
+  pub lines : take ((n + 1) * 27) ys ≡ archived (rows_in (n + 1) ys)
+  pub within : AllWithin (n + 1) ys
+  pub rows : rows_in (n + 1) ys ≡ rows_in n xs ++ x ∷ []
+  pub untouched : ys ≡ archived (rows_in (n + 1) ys) ++ drop (length (archived (rows_in (n + 1) ys))) xs
   pub long : length ys ≡ length xs
 
-pub laid-behind : (n : ℕ) (xs : List ℕ) (x : Row) (m : ℕ) (ys : List ℕ) → take (n * 27) xs ≡ archived (rows_in n xs) → AllWithin n xs → WithinRow x → (n + 1) * 27 ≤ length xs
-    → m ≡ n → ys ≡ paste xs (n * 27) (encoded x) 27 → Laid n xs x m ys
-laid-behind n xs x m ys lines within fits room same-n same_bytes =
+-- part is what the 27 bytes behind the first n records hold
+pub laid-behind : (n : ℕ) (xs : List ℕ) (x : Row) (part : List ℕ) → take (n * 27) xs ≡ archived (rows_in n xs) → AllWithin n xs → WithinRow x → (n + 1) * 27 ≤ length xs
+    → part ≡ encoded x → Laid n xs x (put_mid (n * 27) (n * 27 + 27 - n * 27) xs part)
+laid-behind n xs x part lines within fits room same =
     let long : length (paste xs (n * 27) (encoded x) 27) ≡ length xs = length-paste xs (n * 27) (encoded x) 27 (omega arith) (omega arith) in
-    let here : Laid n xs x n (paste xs (n * 27) (encoded x) 27) = record {
+    let here : Laid n xs x (paste xs (n * 27) (encoded x) 27) = record {
       fits = rw long room;
       lines = more-lines n xs x lines within fits;
       within = more_within n xs x lines within fits;
@@ -147,7 +133,7 @@ laid-behind n xs x m ys lines within fits room same-n same_bytes =
       untouched = more-untouched n xs x lines within fits;
       long = long;
     } in
-    subst (λ k. Laid n xs x k ys) (sym same-n) (subst (λ zs. Laid n xs x n zs) (sym same_bytes) here)
+    subst (λ zs. Laid n xs x zs) (sym (put_mid-paste (n * 27) (n * 27 + 27 - n * 27) xs part (encoded x) 27 same (omega arith) refl)) here
 
 -- an answer that tells a row, as an option of a line
 pub told-some : (r : Result Line ArchiveFault) (x : Row) → told row r ≡ Ok x → option_map row (result_ok r) ≡ Some x

@@ -1,49 +1,32 @@
--- Text laid into a page, piece by piece.
-use Rattle.std.proofs.Common.{◌≡◌, ℕ, zero, suc, ◌+◌, ◌<◌, ◌≤◌, false, ◌⊎◌, List, [], ◌∷◌, ◌++◌, length, get_or, take, drop, set, ℤ, pos, negsuc, nat_abs, ◌<ℤ◌, Some, None, decimal, sym, refl, ap, ◌∙◌, inl, inr, append_assoc, add-one, arith, length-append}
-use Rattle.std.proofs.lemmas.List.{append-nil, take_more_set, take_more, drop-set-lt, length-set, drop-drop}
-use lib.Signed.{le_z}
-use Rattle.std.proofs.lemmas.Int.{ints}
-use Rattle.std.proofs.lemmas.Bool.{leb-false, cases_eq}
+-- Text laid on a page, piece by piece.
+use Rattle.std.proofs.Common.{◌≡◌, ℕ, zero, suc, ◌+◌, ◌<◌, ◌≤◌, ◌⊎◌, List, [], ◌++◌, length, take, drop, ℤ, Some, None, decimal, sym, refl, ap, ◌∙◌, inl, inr, append_assoc, add-one, arith, length-append}
+use Rattle.std.proofs.lemmas.List.{append-nil, drop-drop}
+use Rattle.std.proofs.lemmas.Bool.{cases_eq}
 use Rattle.std.specs.Fmt.{signed_decimal}
-use Rattle.rolls.specs.Pages.{Wrote}
+use Rattle.rolls.specs.Pages.{Lays}
 use Rattle.rolls.specs.Records.{Refusal}
 use Rattle.rolls.specs.Summaries.{pair_text, up_to, closing}
+use Rattle.rolls.specs.declared.page.Page.{Page}
 
-pub wrote_nothing : (page : List ℕ) (from : ℕ) → Wrote page from [] page from
-wrote_nothing page from = record { end = omega arith; front = sym (append-nil (take from page)); rest = refl; long = refl }
+pub lays_nothing : (page : Page) → Lays page [] page
+lays_nothing page = record { lent = refl; end = omega arith; front = sym (append-nil (take page.end page.bytes.now)); rest = refl; long = refl }
 
-pub wrote-byte : (page : List ℕ) (from byte : ℕ) → from < length page → Wrote page from (byte ∷ []) (set page from byte) (from + 1)
-wrote-byte page from byte h =
-    record { end = refl; front = take_more_set page from byte h; rest = drop-set-lt (from + 1) page from byte (omega arith); long = length-set page from byte }
-
-module _ {p p₁ p₂ : List ℕ} {a a₁ a₂ : ℕ} {xs ys : List ℕ} where
-  pub wrote_then : Wrote p a xs p₁ a₁ → Wrote p₁ a₁ ys p₂ a₂ → Wrote p a (xs ++ ys) p₂ a₂
-  wrote_then u v =
-      let from : a₂ ≡ a₁ + length ys = v.end in
-      let behind : drop (a₁ + length ys) p₁ ≡ drop (a₁ + length ys) p =
-      sym (drop-drop (length ys) a₁ p₁) ∙ ap (drop (length ys)) u.rest ∙ drop-drop (length ys) a₁ p in
+module _ {p q r : Page} {xs ys : List ℕ} where
+  pub lays_then : Lays p xs q → Lays q ys r → Lays p (xs ++ ys) r
+  lays_then u v =
+      let behind : drop (q.end + length ys) q.bytes.now ≡ drop (q.end + length ys) p.bytes.now =
+      sym (drop-drop (length ys) q.end q.bytes.now) ∙ ap (drop (length ys)) u.rest ∙ drop-drop (length ys) q.end p.bytes.now in
       record {
+        lent = v.lent ∙ u.lent;
         end = omega (arith, u.end, v.end, length-append xs ys);
-        front = v.front ∙ ap (λ zs. zs ++ ys) u.front ∙ append_assoc (take a p) xs ys;
-        rest = v.rest ∙ ap (λ k. drop k p₁) from ∙ behind ∙ ap (λ k. drop k p) (sym from);
+        front = v.front ∙ ap (λ zs. zs ++ ys) u.front ∙ append_assoc (take p.end p.bytes.now) xs ys;
+        rest = v.rest ∙ ap (λ k. drop k q.bytes.now) v.end ∙ behind ∙ ap (λ k. drop k p.bytes.now) (sym v.end);
         long = v.long ∙ u.long;
       }
-
--- the next byte of a text
-pub wrote-more : {p p₁ p₂ : List ℕ} {a a₁ a₂ : ℕ} (text : List ℕ) (i : ℕ) → i < length text → Wrote p a (take i text) p₁ a₁ → Wrote p₁ a₁ (get_or text i 0 ∷ []) p₂ a₂ → Wrote p a (take (i + 1) text) p₂ a₂
-wrote-more {p} {p₁} {p₂} {a} {a₁} {a₂} text i h u v = let more = take_more text i 0 h in rw more (wrote_then u v)
 
 pub length-pair_text : (month owner : ℕ) (sum : ℤ) → length (pair_text month owner sum) ≡ length (decimal month) + 1 + length (decimal owner) + 1 + length (signed_decimal sum) + 1
 length-pair_text month owner sum =
     simp length-append (omega arith)
-
-pub signed_below : (z : ℤ) → z <ℤ pos 0 → 45 ∷ decimal (nat_abs z) ≡ signed_decimal z
-signed_below (pos n) h = absurd (omega (arith, ints))
-signed_below (negsuc n) h = refl
-
-pub by_left : (z : ℤ) → le_z (pos 0) z ≡ false → z <ℤ pos 0
-by_left (pos n) h = absurd (omega (arith, leb-false 0 n h))
-by_left (negsuc n) h = record { lt = tt }
 
 -- a row of texts: none, and one more
 pub up_to-none : (f : ℕ → List ℕ) → up_to 0 f ≡ []
@@ -56,6 +39,13 @@ up_to-suc n f = refl
 
 pub up_to-more : (n : ℕ) (f : ℕ → List ℕ) → up_to n f ++ f n ≡ up_to (n + 1) f
 up_to-more n f = sym (up_to-suc n f) ∙ ap (λ k. up_to k f) (sym (add-one n))
+
+-- a row of texts laid one behind the other: none, and one more
+pub lays_none : (p : Page) (f : ℕ → List ℕ) → Lays p (up_to 0 f) p
+lays_none p f = rw (up_to-none f) (lays_nothing p)
+
+pub lays_more : {p q r : Page} (n : ℕ) (f : ℕ → List ℕ) → Lays p (up_to n f) q → Lays q (f n) r → Lays p (up_to (n + 1) f) r
+lays_more n f u v = rw (up_to-more n f) at (lays_then u v)
 
 pub length-up_to : (n : ℕ) (f : ℕ → List ℕ) → length (up_to (suc n) f) ≡ length (up_to n f) + length (f n)
 length-up_to n f = ap length (up_to-suc n f) ∙ length-append (up_to n f) (f n)

@@ -2,7 +2,7 @@
 use Rattle.std.specs.Prelude.{ℕ, ◌-◌, ◌/◌, min, List, length}
 use Rattle.rolls.specs.Archives.{rows_in}
 use Rattle.rolls.specs.Rows.{Row}
-use Rattle.rolls.specs.declared.archive.ArchiveRoll.{ArchiveRoll}
+use Rattle.rolls.specs.declared.archive_roll.ArchiveRoll.{ArchiveRoll}
 
 abbrev pub archive_lines : ArchiveRoll → List Row
 archive_lines a = rows_in a.used a.bytes.now

@@ -1,8 +1,14 @@
--- What a page holds once text is laid into it from a place on: the text stands there, and all else is as it was.
-use Rattle.std.specs.Prelude.{◌≡◌, ℕ, ◌+◌, List, ◌++◌, length, take, drop}
+-- What a page holds once text is laid behind what it holds: the text stands there, and all else is as it was.
+use Rattle.std.specs.Prelude.{◌≡◌, ℕ, ◌+◌, ◌≤◌, List, ◌++◌, length, take, drop}
+use Rattle.rolls.specs.declared.page.Page.{Page}
 
-pub record Wrote (page : List ℕ) (from : ℕ) (text : List ℕ) (after : List ℕ) (to : ℕ) : Type 0 where
-  pub end : to ≡ from + length text
-  pub front : take to after ≡ take from page ++ text
-  pub rest : drop to after ≡ drop to page
-  pub long : length after ≡ length page
+-- there is room for the text
+abbrev pub Fits : Page → List ℕ → Type 0
+Fits page text = page.end + length text ≤ length page.bytes.now
+
+pub record Lays (page : Page) (text : List ℕ) (after : Page) : Type 0 where
+  pub lent : after.bytes.ghost_name ≡ page.bytes.ghost_name
+  pub end : after.end ≡ page.end + length text
+  pub front : take after.end after.bytes.now ≡ take page.end page.bytes.now ++ text
+  pub rest : drop after.end after.bytes.now ≡ drop after.end page.bytes.now
+  pub long : length after.bytes.now ≡ length page.bytes.now

@@ -2,7 +2,7 @@
 use Rattle.std.specs.Prelude.{ℕ, ◌-◌, min, List, map, length, take}
 use Rattle.rolls.specs.Meaning.{row}
 use Rattle.rolls.specs.Rows.{Row}
-use Rattle.rolls.specs.declared.table.TableRoll.{TableRoll}
+use Rattle.rolls.specs.declared.table_roll.TableRoll.{TableRoll}
 
 abbrev pub table_lines : TableRoll → List Row
 table_lines t = map row (take t.used t.slots.now)

@@ -1,19 +1,27 @@
-// The archive as a roll.
-ghost use Rattle.std.specs.Prelude.{◌≡◌, ◌+◌, ◌-◌, ◌*◌, ◌/◌, ◌≤◌, min, [], ◌∷◌, ◌++◌, length, drop};
-ghost use Rattle.std.proofs.Math.Seq.{paste};
-ghost use Rattle.rolls.specs.Archives.{archived};
-ghost use Rattle.rolls.specs.ArchiveRolls.{archive_lines, archive_spare};
-ghost use Rattle.rolls.specs.Meaning.{row};
-ghost use Rattle.rolls.specs.Records.{encoded};
-ghost use Rattle.rolls.specs.Rolls.{Adds};
+// The archive as a roll: it lies over lent bytes, which hold the records of its lines one after the other.
+ghost use Rattle.std.specs.Prelude.{◌≡◌, ◌*◌, ◌≤◌, length, take};
+ghost use Rattle.rolls.specs.Archives.{AllWithin, archived, rows_in};
 
-use crate::archive::ArchiveRoll;
 use crate::fault::RollFault;
 use crate::line::Line;
-use crate::record::read_record;
-use crate::roll::Roll;
+use crate::record::{RECORD_LEN, read_record};
+use crate::roll::{MOST_LINES, Roll};
+
+// As it is: one generic type for both rolls is no plainer, since slots and bytes share only a count.
+#[derive(Drop)]
+pub struct ArchiveRoll<'a> {
+    bytes: &'a mut [u8],
+    used: usize,
+    ghost fits: { used * 27 ≤ length bytes.now },
+    ghost few: { used ≤ 1000000 },
+    ghost lines: { take (used * 27) bytes.now ≡ archived (rows_in used bytes.now) },
+    ghost within: { AllWithin used bytes.now },
+}
 
 impl<'a> ArchiveRoll<'a> {
+    ghost use Rattle.std.specs.Prelude.{◌/◌, min, []};
+    ghost use Rattle.rolls.specs.ArchiveRolls.{archive_lines, archive_spare};
+
     // An empty roll with as many free lines as fit.
     pub fn new(bytes: &'a mut [u8]) -> ArchiveRoll<'a>
         ensures empty { archive_lines result ≡ [] }
@@ -27,24 +35,16 @@ impl<'a> ArchiveRoll<'a> {
     pub fn written(&self) -> &[u8]
         ensures { result.now ≡ archived (archive_lines self.now) }
     {
-        &self.bytes[0..self.used * 27]
-    }
-
-    // Writes a line's record behind the last one.
-    fn lay(&mut self, line: Line)
-        requires { (self.old.used + 1) * 27 ≤ length self.old.bytes.now }
-        ensures bytes { self.new.bytes.now ≡ paste self.old.bytes.now (self.old.used * 27) (encoded (row line)) 27 }
-        ensures used { self.new.used ≡ self.old.used }
-    {
-        let record = line.encode();
-        let at = self.used * 27;
-        for i in 0..27 {
-            self.bytes[at + i] = record[i];
-        }
+        &self.bytes[..self.used * RECORD_LEN]
     }
 }
 
 impl<'a> Roll for ArchiveRoll<'a> {
+    ghost use Rattle.std.specs.Prelude.{◌++◌, drop};
+    ghost use Rattle.rolls.specs.ArchiveRolls.{archive_lines, archive_spare};
+    ghost use Rattle.rolls.specs.Meaning.{row};
+    ghost use Rattle.rolls.specs.Rolls.{Adds};
+
     ghost lines = { archive_lines };
 
     ghost spare = { archive_spare };
@@ -56,21 +56,21 @@ impl<'a> Roll for ArchiveRoll<'a> {
         if self.free() == 0 {
             return Err(RollFault::Full);
         }
-        self.lay(line);
+        let at = self.used * RECORD_LEN;
+        self.bytes[at..at + RECORD_LEN].copy_from_slice(&line.encode());
         self.used += 1;
         Ok(())
     }
 
     fn line(&self, place: usize) -> Option<Line> {
-        if place < self.used {
-            let at = place * 27;
-            read_record(&self.bytes[at..at + 27], place).ok()
-        } else {
-            None
+        if place >= self.used {
+            return None;
         }
+        let at = place * RECORD_LEN;
+        read_record(&self.bytes[at..], place).ok()
     }
 
     fn free(&self) -> usize {
-        (self.bytes.len() / 27).min(1_000_000) - self.used
+        (self.bytes.len() / RECORD_LEN).min(MOST_LINES) - self.used
     }
 }

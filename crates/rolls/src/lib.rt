@@ -1,24 +1,21 @@
 // Lines, the rolls that keep them, and the archive they are written to.
 #![tactic(auto)]
 
-mod archive;
 mod archive_roll;
 mod fault;
 mod line;
-mod make;
 mod page;
 mod record;
 mod roll;
 mod summaries;
 mod sums;
-mod table;
 mod table_roll;
 mod tally;
 
-pub use archive::ArchiveRoll;
+pub use archive_roll::ArchiveRoll;
 pub use fault::{ArchiveFault, RollFault};
 pub use line::Line;
 pub use record::read_record;
 pub use roll::Roll;
 pub use summaries::summary;
-pub use table::TableRoll;
+pub use table_roll::TableRoll;

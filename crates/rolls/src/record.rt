@@ -1,17 +1,20 @@
 // A line as the 27 bytes of its archive record, and back.
-ghost use Rattle.std.specs.Prelude.{◌≡◌, ◌-◌, ◌*◌, ◌^◌, ◌<◌, ◌≤◌, true, false, [], ◌∷◌, length, take, drop, IfOk, MatchOption, unsigned_abs};
+ghost use Rattle.std.specs.Prelude.{◌≡◌, ◌-◌, ◌≤◌, [], ◌∷◌, length, take, IfOk, unsigned_abs};
 ghost use Rattle.std.specs.Int.{w64};
 ghost use Rattle.std.proofs.Common.{of_z, to_z};
 ghost use Rattle.rolls.specs.Meaning.{row, told};
 ghost use Rattle.rolls.specs.Numerals.{number, bytes_of};
-ghost use Rattle.rolls.specs.Records.{encoded, reading, headed, held, answered, first_fault, head_check, field_checks, cents_checks, field_of, ReadsBack};
+ghost use Rattle.rolls.specs.Records.{encoded, reading, held, answered, first_fault, head_check, field_checks, cents_checks, field_of, ReadsBack};
 
 use crate::fault::ArchiveFault;
-use crate::line::Line;
+use crate::line::{LAST_MARK, LAST_MONTH, LAST_OWNER, Line, MOST_CENTS};
+
+// The bytes of a record.
+pub(crate) const RECORD_LEN: usize = 27;
 
 impl Line {
     // The line's record in an archive.
-    pub fn encode(&self) -> [u8; 27]
+    pub fn encode(&self) -> [u8; RECORD_LEN]
         ensures bytes { result ≡ encoded (row self.now) }
         ensures reads_back { ReadsBack (row self.now) }
     {
@@ -39,31 +42,18 @@ fn unsigned(bytes: &[u8]) -> u64
     n
 }
 
-// What stands behind a field's tag and length, if they are as they should be.
-fn behind(piece: &[u8], tag: u8) -> Option<&[u8]>
-    requires { 3 ≤ length piece.now }
-    ensures { MatchOption result (headed tag (length piece.now - 3) piece.now ≡ false) (λ rest. (headed tag (length piece.now - 3) piece.now ≡ true) × (rest.now ≡ drop 3 piece.now)) }
-{
-    let [first, high, low, rest @ ..] = piece else {
-        return None;
-    };
-    if *first == tag && *high == 0 && usize::from(*low) == rest.len() {
-        Some(rest)
-    } else {
-        None
-    }
-}
-
-// The number that a field holds behind its tag and length.
+// The number that a field holds behind its tag and length, if these are as they should be.
 fn numbered(piece: &[u8], tag: u8, place: usize) -> Result<u64, ArchiveFault>
     requires long { 3 ≤ length piece.now }
     requires short { length piece.now ≤ 11 }
     ensures answer { told (λ n. n) result ≡ answered place (held piece.now) (first_fault (head_check tag (length piece.now - 3) piece.now ∷ [])) }
     ensures bytes { IfOk result (λ n. piece.now ≡ field_of tag (length piece.now - 3) n) }
 {
-    match behind(piece, tag) {
-        Some(rest) => Ok(unsigned(rest)),
-        None => Err(ArchiveFault::Heading { place }),
+    match piece {
+        [first, 0, low, rest @ ..] if *first == tag && usize::from(*low) == rest.len() => {
+            Ok(unsigned(rest))
+        }
+        _ => Err(ArchiveFault::Heading { place }),
     }
 }
 
@@ -76,17 +66,10 @@ fn bounded(piece: &[u8], tag: u8, low: u64, high: u64, place: usize) -> Result<u
     ensures within { IfOk result (λ n. (low ≤ n) × (n ≤ high)) }
 {
     let n = numbered(piece, tag, place)?;
-    if n < low || n > high {
+    if !(low..=high).contains(&n) {
         return Err(ArchiveFault::Value { place });
     }
     Ok(n)
-}
-
-// Eight bytes' number as two's complement.
-fn signed(n: u64) -> i64
-    ensures { result ≡ to_z w64 n }
-{
-    n.cast_signed()
 }
 
 // The cents of the last field, if they are within their limit.
@@ -96,8 +79,8 @@ fn amount(piece: &[u8], place: usize) -> Result<i64, ArchiveFault>
     ensures bytes { IfOk result (λ z. piece.now ≡ field_of 4 8 (of_z w64 z)) }
     ensures within { IfOk result (λ z. unsigned_abs z ≤ 800000000000000) }
 {
-    let cents = signed(numbered(piece, 4, place)?);
-    if cents.unsigned_abs() > 800_000_000_000_000 {
+    let cents = numbered(piece, 4, place)?.cast_signed();
+    if cents.unsigned_abs() > MOST_CENTS {
         return Err(ArchiveFault::Value { place });
     }
     Ok(cents)
@@ -108,12 +91,12 @@ pub fn read_record(bytes: &[u8], place: usize) -> Result<Line, ArchiveFault>
     ensures read { told row result ≡ reading place bytes.now }
     ensures only_its_own_bytes { IfOk result (λ l. take 27 bytes.now ≡ encoded (row l)) }
 {
-    if bytes.len() < 27 {
+    if bytes.len() < RECORD_LEN {
         return Err(ArchiveFault::Short { place });
     }
-    let month = bounded(&bytes[0..5], 1, 0, 359, place)?;
-    let owner = bounded(&bytes[5..9], 2, 0, 15, place)?;
-    let mark = bounded(&bytes[9..16], 3, 1, 8192, place)?;
+    let month = bounded(&bytes[0..5], 1, 0, u64::from(LAST_MONTH), place)?;
+    let owner = bounded(&bytes[5..9], 2, 0, u64::from(LAST_OWNER), place)?;
+    let mark = bounded(&bytes[9..16], 3, 1, u64::from(LAST_MARK), place)?;
     let cents = amount(&bytes[16..27], place)?;
     Ok(Line {
         month: month as u16,

@@ -9,6 +9,9 @@ ghost use Rattle.rolls.specs.Rows.{Row};
 use crate::fault::RollFault;
 use crate::line::Line;
 
+// A roll takes at most so many lines.
+pub(crate) const MOST_LINES: usize = 1_000_000;
+
 pub trait Roll {
     // The lines, the oldest first.
     ghost lines: { Self → List Row };

@@ -1,17 +1,22 @@
-// The table of lines as a roll.
-ghost use Rattle.std.specs.Prelude.{◌≡◌, ◌-◌, ◌≤◌, min, [], ◌∷◌, ◌++◌, map, length};
-ghost use Rattle.std.specs.List.{slice_get};
-ghost use Rattle.std.specs.Option.{option_map};
-ghost use Rattle.rolls.specs.Meaning.{row};
-ghost use Rattle.rolls.specs.Rolls.{Adds};
-ghost use Rattle.rolls.specs.Tables.{table_lines, table_spare};
+// The table of lines as a roll: it lies over lent lines.
+ghost use Rattle.std.specs.Prelude.{◌≤◌, length};
 
 use crate::fault::RollFault;
 use crate::line::Line;
-use crate::roll::Roll;
-use crate::table::TableRoll;
+use crate::roll::{MOST_LINES, Roll};
+
+#[derive(Drop)]
+pub struct TableRoll<'a> {
+    slots: &'a mut [Line],
+    used: usize,
+    ghost fits: { used ≤ length slots.now },
+    ghost few: { used ≤ 1000000 },
+}
 
 impl<'a> TableRoll<'a> {
+    ghost use Rattle.std.specs.Prelude.{◌≡◌, min, []};
+    ghost use Rattle.rolls.specs.Tables.{table_lines, table_spare};
+
     // An empty roll with as many free lines as fit.
     pub fn new(slots: &'a mut [Line]) -> TableRoll<'a>
         ensures empty { table_lines result ≡ [] }
@@ -22,6 +27,8 @@ impl<'a> TableRoll<'a> {
 }
 
 impl<'a> Roll for TableRoll<'a> {
+    ghost use Rattle.rolls.specs.Tables.{table_lines, table_spare};
+
     ghost lines = { table_lines };
 
     ghost spare = { table_spare };
@@ -36,14 +43,10 @@ impl<'a> Roll for TableRoll<'a> {
     }
 
     fn line(&self, place: usize) -> Option<Line> {
-        if place < self.used {
-            Some(self.slots[place])
-        } else {
-            None
-        }
+        self.slots[..self.used].get(place).copied()
     }
 
     fn free(&self) -> usize {
-        self.slots.len().min(1_000_000) - self.used
+        self.slots.len().min(MOST_LINES) - self.used
     }
 }

@@ -16,17 +16,12 @@ mod tests {
     ];
 
     fn line(month: u16, owner: u8, mark: u16, cents: i64) -> Result<Line, Fail> {
-        match Line::new(month, owner, mark, cents) {
-            Some(line) => Ok(line),
-            None => Err(Fail::new("outside the limits")),
-        }
+        Line::new(month, owner, mark, cents).ok_or_else(|| Fail::new("outside the limits"))
     }
 
     #[test]
     fn worked_record(rt: HostRuntime) -> Result<(), Fail> {
-        let l = line(14, 2, 9, -150)?;
-        let bytes = l.encode();
-        assert!(rt; &bytes[..] == &WORKED[..]);
+        assert_eq!(rt; line(14, 2, 9, -150)?.encode(), WORKED);
         let back = read_record(&WORKED, 0)?;
         assert_eq!(rt; back.month(), 14);
         assert_eq!(rt; back.owner(), 2);
@@ -103,10 +98,7 @@ mod tests {
     }
 
     fn cents_at<R: Roll>(roll: &R, place: usize) -> Option<i64> {
-        match roll.line(place) {
-            Some(line) => Some(line.cents()),
-            None => None,
-        }
+        roll.line(place).map(|line| line.cents())
     }
 
     // Fills a roll with three free lines, and asks it.
@@ -141,8 +133,8 @@ mod tests {
         fill(&rt, &mut roll)?;
         let third = line(14, 2, 6, 1515)?.encode();
         let written = roll.written();
-        assert!(rt; written.len() == 81);
-        assert!(rt; &written[54..81] == &third[..]);
+        assert_eq!(rt; written.len(), 81);
+        assert_eq!(rt; &written[54..], &third[..]);
         Ok(())
     }
 
@@ -150,7 +142,7 @@ mod tests {
     fn shows(rt: &impl Abort, archive: &[u8], text: &[u8]) {
         let mut page = [7; 65_536];
         let count = summary(archive, &mut page);
-        assert!(rt; &page[0..count] == text);
+        assert_eq!(rt; &page[..count], text);
         assert!(rt; count == 65_536 || page[count] == 7);
     }
 
@@ -168,8 +160,8 @@ mod tests {
 
     // Fills bytes with the worked record again and again.
     fn repeat(bytes: &mut [u8]) {
-        for i in 0..bytes.len() {
-            bytes[i] = WORKED[i % 27];
+        for record in bytes.chunks_mut(WORKED.len()) {
+            record.copy_from_slice(&WORKED[..record.len()]);
         }
     }
 

@@ -1,42 +1,52 @@
-use Rattle.std.proofs.Common.{◌≡◌, ◌-◌, ◌*◌, ◌≤◌, length, take, drop, sym, refl, ap, arith, length-take}
-use Rattle.std.proofs.lemmas.List.{take_rest}
+use Rattle.std.proofs.Common.{sym, refl, ◌∙◌, arith, rules}
 use Rattle.std.proofs.lemmas.Result.{err_from_is_err_and}
 use Rattle.rolls.specs.Meaning.{row, refusal}
-use Rattle.rolls.specs.Records.{encoded}
 use Rattle.rolls.proofs.Bounds.{room-left}
-use Rattle.rolls.proofs.Counting.{counted-more, stopped_at, ended_at}
+use Rattle.rolls.proofs.Counting.{counted_none, counted-more, stopped_at, ended_at}
 use Rattle.rolls.proofs.tally.tally.Goals as goal
 
-pub returns-in_err-line : goal.returns-in_err-line
-returns-in_err-line c =
+pub loop-place-init : goal.loop-place-init
+loop-place-init c = record {
+  can = search rules;
+  finite = search rules;
+  size = search rules;
+  counted = rw (c.into_iter-place-iterator.ensures.into_iter_gives, c.enumerate-place-items.ensures.count, c.enumerate-place-items.ensures.source, c.chunks.ensures.rest)
+      (counted_none c.args.archive.now c.args.sums.now c.requires.empty);
+}
+
+pub returns-in_err-read_record : goal.returns-in_err-read_record
+returns-in_err-read_record c =
     let p = err_from_is_err_and c.from_residual.result c.from_residual.ensures.1 in
-    let bs = c.args.archive.now in
-    let k = c.loop-place.place in
-    let rest : take (length bs - k * 27) (drop (k * 27) bs) ≡ drop (k * 27) bs = take_rest bs (k * 27) in
-    let read = rw rest at c.in_err-line.ensures.read in
-    let all = stopped_at bs k c.loop-place.sums c.loop-place.invariant (refusal c.in_err-line.field-0.0) c.loop-place-test.true (sym read) in
-    rw (p.1, p.2, all) (record { ends = refl; sums = c.loop-place.invariant.sums; within = c.loop-place.invariant.within; few = omega (arith, c.loop-place.invariant.many, c.loop-place.invariant.reached) })
+    let i = c.loop-place.invariant.counted in
+    let steps = c.in-Some.ensures.steps in
+    let size = rw c.loop-place.invariant.size at steps.0.1.1 in
+    let read = rw steps.1 at c.in_err-read_record.ensures.read in
+    let all = stopped_at c.args.archive.now _ _ c.loop-place.sums i c.in-Some.record.now _ steps.0.1.0 size steps.0.1.2 (refusal c.in_err-read_record.field-0.0) (sym read) in
+    rw (p.1, p.2, all) (record { ends = refl; sums = i.sums; within = i.within; few = omega (arith, i.many, i.long) })
 
 pub add-requires : goal.add-requires
 add-requires c =
-    room-left c.loop-place.sums c.loop-place.invariant.rows c.loop-place.invariant.sums c.loop-place.invariant.within (omega (arith, c.loop-place.invariant.many, c.requires.short))
+    let i = c.loop-place.invariant.counted in
+    room-left c.loop-place.sums i.rows i.sums i.within (omega (arith, i.many, i.long, c.in-Some.ensures.steps.0.1.2))
 
 pub loop-place-preserved : goal.loop-place-preserved
 loop-place-preserved c =
-    let bs = c.args.archive.now in
-    let k = c.loop-place.place in
-    let l = c.in_ok-line.line in
-    let rest : take (length bs - k * 27) (drop (k * 27) bs) ≡ drop (k * 27) bs = take_rest bs (k * 27) in
-    let read = rw rest at c.in_ok-line.ensures.read in
-    let bytes : take 27 (drop (k * 27) bs) ≡ encoded (row l) = rw rest at c.in_ok-line.ensures.only_its_own_bytes in
-    let long : length (take 27 (drop (k * 27) bs)) ≡ 27 = ap length bytes in
-    let enough : 27 ≤ length (drop (k * 27) bs) = omega (arith, long, length-take 27 (drop (k * 27) bs)) in
-    counted-more bs k c.loop-place.sums c.loop-place.invariant (row l) c.add.new.self c.loop-place-test.true (sym read) enough l.within (c.add.ensures c.loop-place.invariant.rows)
+    let i = c.loop-place.invariant.counted in
+    let steps = c.in-Some.ensures.steps in
+    let size = rw c.loop-place.invariant.size at steps.0.1.1 in
+    let read = rw steps.1 at c.in_ok-read_record.ensures.read in
+    let l = c.in_ok-read_record.field-0 in
+    record {
+      can = search rules;
+      finite = search rules;
+      size = steps.0.0 ∙ c.loop-place.invariant.size;
+      counted = rw steps.2 (counted-more c.args.archive.now _ _ c.loop-place.sums i c.in-Some.record.now _ steps.0.1.0 size steps.0.1.2 (row l) c.add.new.self (sym read)
+          c.in_ok-read_record.ensures.only_its_own_bytes l.within (c.add.ensures i.rows));
+    }
 
 pub returns : goal.returns
 returns c =
-    let bs = c.args.archive.now in
-    let k = c.loop-place.place in
-    let i = c.loop-place.invariant in
-    let all = ended_at bs k c.loop-place.sums i c.loop-place-test.false in
-    rw all (record { ends = (refl, sym i.many); sums = i.sums; within = i.within; few = omega (arith, i.many, i.reached) })
+    let i = c.loop-place.invariant.counted in
+    let steps = c.in-None.ensures.steps in
+    let all = ended_at c.args.archive.now _ _ c.loop-place.sums i steps.0.1.0 in
+    rw all (record { ends = (refl, omega (arith, i.many, i.long, steps.0.1.0)); sums = i.sums; within = i.within; few = omega (arith, i.many, i.long) })

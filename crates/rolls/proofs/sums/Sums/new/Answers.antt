@@ -1,10 +1,9 @@
-use Rattle.std.proofs.Common.{pos, arith}
+use Rattle.std.proofs.Common.{[], length, None, replicate, get_or, ap, ◌∙◌}
 use Rattle.std.proofs.lemmas.List.{get_or-replicate}
-use Rattle.rolls.specs.Tallies.{slot}
 use Rattle.rolls.proofs.sums.Sums.new.Goals as goal
 
 pub returns : goal.returns
 returns c = record {
-  cents = λ m o hm ho. get_or-replicate 5760 (slot m o) (pos 0) (pos 0) (omega arith);
-  lines = λ m o hm ho. get_or-replicate 5760 (slot m o) 0 0 (omega arith);
+  owners = λ m hm. ap length (get_or-replicate 360 m (replicate 16 None) [] hm);
+  sums = λ m o hm ho. ap (λ owners. get_or owners o None) (get_or-replicate 360 m (replicate 16 None) [] hm) ∙ get_or-replicate 16 o None None ho;
 }
