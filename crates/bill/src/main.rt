@@ -1,7 +1,7 @@
 // The book as a library: three owners file and are metered, a month is opened and billed, and its lines are printed.
 #![tactic(auto)]
 
-use anyhow::anyhow;
+use anyhow::{Context, anyhow};
 use book::{Book, BookFault, Entry};
 use charges::{Charge, Volumetric};
 use rolls::{ArchiveRoll, Roll};
@@ -31,10 +31,9 @@ fn bill<C: Charge, R: Roll>(
 
 fn print_lines<R: Roll>(rt: &impl Print, roll: &R) -> anyhow::Result<()> {
     println!(rt; "month owner mark cents")?;
+    // As it is: a roll hands its lines out by place, and has no slice of them to go through.
     for place in 0..3 {
-        let Some(line) = roll.line(place) else {
-            return Err(anyhow!("a line is missing"));
-        };
+        let line = roll.line(place).context("a line is missing")?;
         let month = line.month();
         let owner = line.owner();
         let mark = line.mark();
@@ -44,20 +43,17 @@ fn print_lines<R: Roll>(rt: &impl Print, roll: &R) -> anyhow::Result<()> {
     Ok(())
 }
 
+fn refused(_fault: BookFault) -> anyhow::Error {
+    anyhow!("a call is refused")
+}
+
 fn main(rt: HostRuntime) -> anyhow::Result<()> {
     let mut journal = Vec::with_capacity(rt.alloc(), 6)?;
     let mut bytes = [0; 81];
     let mut roll = ArchiveRoll::new(&mut bytes);
-    let Ok(charge) = Volumetric::new(8) else {
-        return Err(anyhow!("the charge is refused"));
-    };
-    let Ok(mut book) = Book::new(&[0, 1, 1], charge) else {
-        return Err(anyhow!("the owners are refused"));
-    };
-    let entered = enter(&book, &mut journal);
-    let billed = bill(&mut book, &journal, &mut roll, 14);
-    if entered.is_err() || billed.is_err() {
-        return Err(anyhow!("a call is refused"));
-    }
+    let charge = Volumetric::new(8).map_err(|_| anyhow!("the charge is refused"))?;
+    let mut book = Book::new(&[0, 1, 1], charge).map_err(|_| anyhow!("the owners are refused"))?;
+    enter(&book, &mut journal).map_err(refused)?;
+    bill(&mut book, &journal, &mut roll, 14).map_err(refused)?;
     print_lines(&rt, &roll)
 }

@@ -1,5 +1,5 @@
 -- What a book, its journal and a roll account for after each call.
-use Rattle.std.proofs.Common.{◌≡◌, ℕ, ◌+◌, ◌<◌, ◌≤◌, Bool, true, false, cond, eqb, List, [], ◌∷◌, ◌++◌, map, length, get_or, take, drop, ℤ, IfOk, Some, None, Ok, Err, vec_items, vec_len, vec_capacity, Option, Result, Vec, sym, refl, ap, ◌∙◌, subst, append_assoc, append-nil, arith}
+use Rattle.std.proofs.Common.{◌≡◌, ℕ, ◌+◌, ◌<◌, ◌≤◌, Bool, true, false, cond, eqb, List, [], ◌∷◌, ◌++◌, map, length, get_or, take, drop, ℤ, IfOk, MatchResult, Some, None, Ok, Err, vec_items, vec_len, vec_capacity, Option, Result, Vec, sym, refl, ap, ◌∙◌, subst, append_assoc, append-nil, arith}
 use mathlib.Core.List.{append_cancel_left}
 use Rattle.std.proofs.lemmas.List.{take_all, drop_at, length-map, length_push}
 use Rattle.std.proofs.lemmas.Bool.{or_parts, leb-false, eqb-true}
@@ -11,12 +11,12 @@ use Rattle.rolls.specs.Rows.{Row}
 use Rattle.book.specs.Accounts.{Account}
 use Rattle.book.specs.Answers.{told, fault_of, granting}
 use Rattle.book.specs.Books.{areas_of, mark_of, Marked}
-use Rattle.book.specs.Calls.{count_of, entries_in, open_checks, worked_after, opening_of, opened, drafted}
+use Rattle.book.specs.Calls.{count_of, entries_in, open_checks, opening_in, worked_after, opening_of, opened, drafted}
 use Rattle.book.specs.Checks.{answered, verdict, full, filing_checks, reading_checks}
 use Rattle.book.specs.Entries.{Filed, Metered, Noted, filed, metered}
 use Rattle.book.specs.Faults.{refusal}
 use Rattle.book.specs.Histories.{Request, Grant, Event, Terms, event_of, files, reads, opens, posts, withdraws, asks, entered, drew, posted, withdrawn, stands, entries_by, mark_by, owners, afresh, free_by, draws, answer_to, if_granted, entry_of, posting_of}
-use Rattle.book.specs.Journals.{entries_of, Enters}
+use Rattle.book.specs.Journals.{entries_of, Enters, filing_in, reading_in}
 use Rattle.book.specs.Laws.{Balanced, Accounts}
 use Rattle.book.specs.Meaning.{noted}
 use Rattle.book.specs.Postings.{posting, posting_in, lines_of, mark_after}
@@ -33,6 +33,11 @@ use Rattle.book.proofs.Balancing.{last-pass, passed}
 told-granting : {X Y : Type 0} (answer : X → Y) (r : Result X BookFault) → told answer r ≡ granting answer (told (λ x. x) r)
 told-granting answer (Ok x) = refl
 told-granting answer (Err e) = refl
+
+-- an answer whose value the code maps
+pub told-mapped : {X Y Z : Type 0} (meaning : Y → Z) (f : X → Y) (r : Result X BookFault) (s : Result Y BookFault) → MatchResult r (λ x. s ≡ Ok (f x)) (λ e. s ≡ Err e) → told (λ x. meaning (f x)) r ≡ told meaning s
+told-mapped meaning f (Ok x) s is = sym (ap (told meaning) is)
+told-mapped meaning f (Err e) s is = sym (ap (told meaning) is)
 
 told-after : {X Y Z : Type 0} (f : X → Y) (answer : Y → Z) (r : Result X BookFault) → told (λ x. answer (f x)) r ≡ granting answer (told f r)
 told-after f answer (Ok x) = refl
@@ -73,11 +78,11 @@ module _ {C : Type 0} (meaning : ℕ → List OwnerRow → Outcome) (t : Terms) 
   mark-is month = a.accounts.marks_are month
 
   -- one entry more, or none
-  filed-is : (f : Filed) (r : Result ℕ BookFault) → told (λ i. i) r ≡ verdict (vec_len j) (filing_checks (length (areas_of book)) (vec_len j) (vec_capacity j) f) → told entered r ≡ answer_to t h (files f)
+  filed-is : (f : Filed) (r : Result ℕ BookFault) → told (λ i. i) r ≡ filing_in book j f → told entered r ≡ answer_to t h (files f)
   filed-is f r is =
       told-granting entered r ∙ ap (granting entered) (is ∙ ap (λ n. verdict n (filing_checks (length (areas_of book)) n (vec_capacity j) f)) long ∙ ap (λ k. verdict (length (entries_by h)) (filing_checks k (length (entries_by h)) (vec_capacity j) f)) owners-are ∙ ap (λ k. verdict (length (entries_by h)) (filing_checks (owners t) (length (entries_by h)) k f)) a.accounts.room_is)
 
-  read_is : (m : Metered) (r : Result ℕ BookFault) → told (λ i. i) r ≡ verdict (vec_len j) (reading_checks (length (areas_of book)) (vec_len j) (vec_capacity j) m) → told entered r ≡ answer_to t h (reads m)
+  read_is : (m : Metered) (r : Result ℕ BookFault) → told (λ i. i) r ≡ reading_in book j m → told entered r ≡ answer_to t h (reads m)
   read_is m r is =
       told-granting entered r ∙ ap (granting entered) (is ∙ ap (λ n. verdict n (reading_checks (length (areas_of book)) n (vec_capacity j) m)) long ∙ ap (λ k. verdict (length (entries_by h)) (reading_checks k (length (entries_by h)) (vec_capacity j) m)) owners-are ∙ ap (λ k. verdict (length (entries_by h)) (reading_checks (owners t) (length (entries_by h)) k m)) a.accounts.room_is)
 
@@ -87,7 +92,7 @@ module _ {C : Type 0} (meaning : ℕ → List OwnerRow → Outcome) (t : Terms) 
   pub kept : (h' : List Event) (j' : Vec Entry Global) → vec_capacity j' ≡ vec_capacity j → Accounts t h' book.marks (entries_of j') (vec_capacity j) rows free → Account meaning t h' book j' rows free
   kept h' j' same b = record { areas_are = a.areas_are; meaning_is = a.meaning_is; accounts = subst (λ n. Accounts t h' book.marks (entries_of j') n rows free) (sym same) b }
 
-  pub files-on : (f : Filed) (r : Result ℕ BookFault) (j' : Vec Entry Global) → told (λ i. i) r ≡ verdict (vec_len j) (filing_checks (length (areas_of book)) (vec_len j) (vec_capacity j) f) → Enters (filed f) r j j'
+  pub files-on : (f : Filed) (r : Result ℕ BookFault) (j' : Vec Entry Global) → told (λ i. i) r ≡ filing_in book j f → Enters (filed f) r j j'
       → Account meaning t (h ++ event_of (files f) (told entered r) ∷ []) book j' rows free
   files-on f (Ok i) j' is enters =
       let room : vec_len j < 8192 = not_full (take 3 (filing_checks (length (areas_of book)) (vec_len j) (vec_capacity j) f)) i (vec_len j) (vec_capacity j) is in
@@ -95,7 +100,7 @@ module _ {C : Type 0} (meaning : ℕ → List OwnerRow → Outcome) (t : Terms) 
   files-on f (Err e) j' is enters =
       kept _ j' (ap vec_capacity enters) (grown t h book.marks (entries_of j) (vec_capacity j) rows free a.accounts (event_of (files f) (Err (refusal e))) (filed-is f (Err e) is) [] refl refl (entries_of j') (ap entries_of enters ∙ sym (append-nil (entries_of j))) (omega (arith, ap (λ v. length (entries_of v)) enters, j.ok.0, length-map (vec_items j) noted, few)))
 
-  pub reads_on : (m : Metered) (r : Result ℕ BookFault) (j' : Vec Entry Global) → told (λ i. i) r ≡ verdict (vec_len j) (reading_checks (length (areas_of book)) (vec_len j) (vec_capacity j) m) → Enters (metered m) r j j'
+  pub reads_on : (m : Metered) (r : Result ℕ BookFault) (j' : Vec Entry Global) → told (λ i. i) r ≡ reading_in book j m → Enters (metered m) r j j'
       → Account meaning t (h ++ event_of (reads m) (told entered r) ∷ []) book j' rows free
   reads_on m (Ok i) j' is enters =
       let room : vec_len j < 8192 = not_full (take 3 (reading_checks (length (areas_of book)) (vec_len j) (vec_capacity j) m)) i (vec_len j) (vec_capacity j) is in
@@ -120,11 +125,11 @@ module _ {C : Type 0} (meaning : ℕ → List OwnerRow → Outcome) (t : Terms) 
       ∙ ap (λ xs. worked_after (first_fault (open_checks (length xs) places month (mark_by month h) (entries_by h))) (worked_out meaning xs month (entries_by h))) a.areas_are
       ∙ ap (λ m. worked_after (first_fault (open_checks (owners t) places month (mark_by month h) (entries_by h))) (worked_out m t.areas month (entries_by h))) a.meaning_is
 
-  pub opens-on : (month : ℕ) (draft draft' : List ℤ) (r : Result Opening BookFault)
-      → told opening_of r ≡ opened month (count_of j) (worked_after (first_fault (open_checks (length (areas_of book)) (length draft) month (mark_of book month) (entries_in j))) (worked_out meaning (areas_of book) month (entries_in j)))
-      → draft' ≡ drafted (worked_after (first_fault (open_checks (length (areas_of book)) (length draft) month (mark_of book month) (entries_in j))) (worked_out meaning (areas_of book) month (entries_in j))) draft
+  pub opens_on : (month : ℕ) (draft draft' : List ℤ) (r : Result Opening BookFault)
+      → told opening_of r ≡ opened month (count_of j) (opening_in meaning book j month (length draft))
+      → draft' ≡ drafted (opening_in meaning book j month (length draft)) draft
       → Account meaning t (h ++ event_of (opens month draft) (told (λ o. drew o.month o.count draft') r) ∷ []) book j rows free
-  opens-on month draft draft' r is draft-is = quiet _ (drawn-by (told_working month (length draft)) r (is ∙ ap (λ w. opened month (count_of j) w) (same-working month (length draft)) ∙ ap (λ n. opened month n (told_working month (length draft))) count-is) (draft-is ∙ ap (λ w. drafted w draft) (same-working month (length draft)))) (nothing _) (nothing _)
+  opens_on month draft draft' r is draft-is = quiet _ (drawn-by (told_working month (length draft)) r (is ∙ ap (λ w. opened month (count_of j) w) (same-working month (length draft)) ∙ ap (λ n. opened month n (told_working month (length draft))) count-is) (draft-is ∙ ap (λ w. drafted w draft) (same-working month (length draft)))) (nothing _) (nothing _)
     where
       drawn-by : (w : Working) (r : Result Opening BookFault) → told opening_of r ≡ opened month (length (entries_by h)) w → draft' ≡ drafted w draft → told (λ o. drew o.month o.count draft') r ≡ draws month (length (entries_by h)) draft w
       drawn-by (denied f) (Ok o) e d = let z : ◌≡◌ {A = ℕ} 0 1 = cc in absurd (omega arith)
@@ -137,9 +142,9 @@ module _ {C : Type 0} (meaning : ℕ → List OwnerRow → Outcome) (t : Terms) 
   pub state-told : (month : ℕ) (r : Result State BookFault) → told state_as r ≡ verdict (state_of (mark_of book month) month (entries_in j)) (state_checks month) → told state_as r ≡ verdict (state_of (mark_by month h) month (entries_by h)) (state_checks month)
   state-told month r is = is ∙ ap (λ m. verdict (state_of m month (entries_in j)) (state_checks month)) (mark-is month) ∙ ap (λ xs. verdict (state_of (mark_by month h) month xs) (state_checks month)) entries-in
 
-  pub asks-on : (month : ℕ) (r : Result State BookFault) → told state_as r ≡ verdict (state_of (mark_of book month) month (entries_in j)) (state_checks month)
+  pub asks_on : (month : ℕ) (r : Result State BookFault) → told state_as r ≡ verdict (state_of (mark_of book month) month (entries_in j)) (state_checks month)
       → Account meaning t (h ++ event_of (asks month) (told (λ s. stands (state_as s)) r) ∷ []) book j rows free
-  asks-on month r is = quiet _ (told-after state_as stands r ∙ ap (granting stands) (state-told month r is)) (nothing _) (nothing _)
+  asks_on month r is = quiet _ (told-after state_as stands r ∙ ap (granting stands) (state-told month r is)) (nothing _) (nothing _)
 
   -- a posting as the history tells it
   free-is : free_by t h ≡ free

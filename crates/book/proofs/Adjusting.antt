@@ -1,19 +1,15 @@
 -- What the weights and amounts of an adjustment keep to.
-use Rattle.std.proofs.Common.{◌≡◌, ℕ, ◌+◌, ◌-◌, ◌<◌, ◌≤◌, Bool, true, false, cond, ◌⊎◌, List, [], ◌∷◌, map, length, get_or, take, ℤ, pos, negsuc, ◌+ℤ◌, ◌-ℤ◌, ◌*ℤ◌, nat_abs, Some, None, Ok, Err, Result, ap, ◌∙◌, inl, inr, arith, w64, to_z, of_z}
-use Rattle.charges.proofs.Reckoning.{small-fits}
+use Rattle.std.proofs.Common.{◌≡◌, ℕ, ◌+◌, ◌<◌, ◌≤◌, Bool, true, false, cond, ◌⊎◌, List, [], ◌∷◌, map, length, get_or, ℤ, pos, negsuc, ◌+ℤ◌, ◌*ℤ◌, nat_abs, Some, None, Ok, Err, Result, ap, ◌∙◌, inl, inr, arith}
 use Rattle.std.proofs.lemmas.List.{get_or-map, get_or_past, length-map}
-use Rattle.std.proofs.lemmas.Int.{ints, to_z-of_z}
+use Rattle.std.proofs.lemmas.Int.{ints}
 use Rattle.std.proofs.lemmas.List.Sums.{sum_by-cons}
 use Rattle.std.proofs.lemmas.Bool.{cases_lt, ltb-false}
 use Rattle.charges.specs.Answered.{first_fault-pass, first_fault-stop}
 use Rattle.book.specs.Answers.{nets_answer}
-use Rattle.book.specs.Workings.{plain, adjustment, weight_check, net_checks, netted, nets_of}
+use Rattle.book.specs.Workings.{plain, weight_check, net_checks, netted, nets_of}
 use Rattle.book.specs.Workings.{Refusal as BookRefusal}
 use Rattle.division.specs.Nearest.{nearest}
-use Rattle.division.specs.Outcomes.{Refused}
-use Rattle.division.specs.Shares.{total, int_sum, shares}
-use Rattle.division.specs.declared.Refusal.{Refusal}
-use Rattle.division.specs.declared.Refusal.TheVariants.{LengthsDiffer, TooMuchWeight}
+use Rattle.division.specs.Shares.{total, shares}
 use Rattle.division.proofs.Divides.{running-divides}
 use Rattle.division.proofs.Rules.{share-magnitude}
 use Rattle.division.proofs.Roundings.{nearest-rounds}
@@ -39,10 +35,6 @@ weights-within (r ∷ rows) =
 
 pub little-weight : (rows : List OwnerRow) → Good rows → total (map weight_of rows) ≤ 3000000000
 little-weight rows good = omega (arith, weights-within rows, good.required)
-
-pub not-refused : (weights : List ℕ) (before after : List ℤ) → length weights ≡ length before → total weights ≤ 3000000000 → (why : Refusal) → Refused why weights before after → ⊥
-not-refused weights before after same little LengthsDiffer r = r.reason same
-not-refused weights before after same little TooMuchWeight r = omega (arith, r.reason.1)
 
 -- a hundredth of a product, rounded
 hundredth : (a : ℤ) → nat_abs a ≤ 1000000000000000 → nat_abs (nearest a 100) ≤ 10000000000000
@@ -77,19 +69,6 @@ module _ (rows : List OwnerRow) (bills : List ℤ) (parts : List ℤ) where
 
     pub nothing_stops : (nets : List ℤ) → nets ≡ nets_of rows bills → (weight_check rows bills).fails ≡ false → ◌≡◌ {A = Result (List ℤ) BookRefusal} (Ok nets) (nets_answer (netted (first_fault (net_checks rows bills)) rows parts bills))
     nothing_stops nets is e = let pass = checks-are false e in rw (pass, is)
-
--- the adjustment as the code works it out
-pub adjusted : (rows : List OwnerRow) (bills arr : List ℤ) (a b : ℤ) → nat_abs a ≤ 160000000000000 → nat_abs b ≤ 160000000000000
-    → a ≡ int_sum bills → b ≡ int_sum (take (length rows - 0) arr) → take (length rows) arr ≡ map utility_amount rows
-    → (to_z w64 (of_z w64 (to_z w64 (of_z w64 a) -ℤ to_z w64 (of_z w64 b))) ≡ adjustment rows bills) × (nat_abs (adjustment rows bills) ≤ 320000000000000)
-adjusted rows bills arr a b small-a small_b a-is b-is are =
-    let whole : length rows - 0 ≡ length rows = omega arith in
-    let b-are : b ≡ int_sum (map utility_amount rows) = b-is ∙ ap (λ k. int_sum (take k arr)) whole ∙ ap int_sum are in
-    let ea : to_z w64 (of_z w64 a) ≡ a = to_z-of_z w64 a (small-fits a (omega arith)) in
-    let eb : to_z w64 (of_z w64 b) ≡ b = to_z-of_z w64 b (small-fits b (omega arith)) in
-    let same : a -ℤ b ≡ adjustment rows bills = ap (λ z. z -ℤ b) a-is ∙ ap (λ z. int_sum bills -ℤ z) b-are in
-    let size : nat_abs (a -ℤ b) ≤ 320000000000000 = omega (arith, ints) in
-    (rw (ea, eb) (to_z-of_z w64 (a -ℤ b) (small-fits (a -ℤ b) (omega arith)) ∙ same), rw same at size)
 
 pub length-shares : (sum : ℤ) (rows : List OwnerRow) → length (shares sum (map weight_of rows)) ≡ length rows
 length-shares sum rows = running-divides.as_many_shares sum (map weight_of rows) ∙ length-map rows weight_of

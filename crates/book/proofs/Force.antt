@@ -1,10 +1,10 @@
 -- The entries in force, one entry more.
-use Rattle.std.proofs.Common.{◌≡◌, ℕ, ◌<◌, ◌≤◌, Bool, true, false, cond, ◌&&◌, eqb, ◌⊎◌, List, [], ◌∷◌, ◌++◌, length, get_or, set, Some, None, Option, sym, refl, ap, ◌∙◌, inl, inr, arith}
+use Rattle.std.proofs.Common.{◌≡◌, ℕ, ◌<◌, ◌≤◌, Bool, true, false, cond, ◌&&◌, eqb, ◌⊎◌, List, [], ◌∷◌, ◌++◌, length, get_or, take, set, Some, None, Option, sym, refl, ap, ◌∙◌, inl, inr, arith}
 use Rattle.std.specs.Option.{option_map}
-use Rattle.std.proofs.lemmas.List.{get_or-set_same, get_or-set_other}
-use Rattle.std.proofs.lemmas.Bool.{cases_eq, eq-eqb, ne_eqb, le-leb, and_from, and_left, and_right}
-use Rattle.book.specs.Entries.{Noted, filed, metered, covers, filing_for, reading_for, or_else, latest}
-use Rattle.book.specs.Forces.{InForce}
+use Rattle.std.proofs.lemmas.List.{get_or-set_same, get_or-set_other, get_or_default, get_or-take, length-take-le, length-set}
+use Rattle.std.proofs.lemmas.Bool.{cases_eq, eq-eqb, ne_eqb, and_from, and_left, and_right}
+use Rattle.book.specs.Entries.{Noted, filed, metered, covers, touches, filing_for, reading_for, or_else, latest}
+use Rattle.book.specs.Forces.{InForce, nothing}
 use Rattle.book.specs.Meaning.{filed_of, metered_of}
 use Rattle.book.specs.declared.entry.Filing.{Filing}
 use Rattle.book.specs.declared.entry.Reading.{Reading}
@@ -22,20 +22,20 @@ pub latest-push : {A X : Type 0} (pick : A → Option X) (es : List A) (e : A) �
 latest-push pick [] e = sym (or_else-none (pick e))
 latest-push pick (x ∷ es) e = ap (λ o. or_else o (pick x)) (latest-push pick es e) ∙ or_else-assoc (pick e) (latest pick es) (pick x)
 
--- a place of a list of options is set for one owner
-module _ {X Y : Type 0} (meaning : X → Y) (xs : List (Option X)) (x : X) (at : ℕ) (long : at < length xs) (covered : Bool) (is : covered ≡ true) where
-  pub one_set : (owner : ℕ) (before : Option Y) → option_map meaning (get_or xs owner None) ≡ before
-      → option_map meaning (get_or (set xs at (Some x)) owner None) ≡ or_else (cond (eqb at owner && covered) (Some (meaning x)) None) before
+-- what is in force of one owner is set
+module _ {X Y : Type 0} (meaning : X → Y) (held : Standing → Option X) (xs : List Standing) (x : X) (s : Standing) (holds : held s ≡ Some x) (at : ℕ) (long : at < length xs) (covered : Bool) (is : covered ≡ true) where
+  pub one_set : (owner : ℕ) (before : Option Y) → option_map meaning (held (get_or xs owner nothing)) ≡ before
+      → option_map meaning (held (get_or (set xs at s) owner nothing)) ≡ or_else (cond (eqb at owner && covered) (Some (meaning x)) None) before
   one_set owner before e = by (cases_eq at owner)
     where
-      by : (at ≡ owner) ⊎ (at ≡ owner → ⊥) → option_map meaning (get_or (set xs at (Some x)) owner None) ≡ or_else (cond (eqb at owner && covered) (Some (meaning x)) None) before
+      by : (at ≡ owner) ⊎ (at ≡ owner → ⊥) → option_map meaning (held (get_or (set xs at s) owner nothing)) ≡ or_else (cond (eqb at owner && covered) (Some (meaning x)) None) before
       by (inl p) =
-          let here = get_or-set_same xs at (Some x) None long in
+          let here = get_or-set_same xs at s nothing long in
           let own : (eqb at owner && covered) ≡ true = and_from _ _ (eq-eqb at owner p) is in
-          rw own (ap (λ k. option_map meaning (get_or (set xs at (Some x)) k None)) (sym p) ∙ ap (option_map meaning) here)
+          rw own (ap (λ k. option_map meaning (held (get_or (set xs at s) k nothing))) (sym p) ∙ ap (λ t. option_map meaning (held t)) here ∙ ap (option_map meaning) holds)
       by (inr n) =
           let other : (eqb at owner && covered) ≡ false = and_left _ _ (ne_eqb at owner n) in
-          rw other (ap (option_map meaning) (get_or-set_other xs at owner (Some x) None (λ q. n (sym q))) ∙ e)
+          rw other (ap (λ t. option_map meaning (held t)) (get_or-set_other xs at owner s nothing (λ q. n (sym q))) ∙ e)
 
 -- an entry that is not picked changes nothing
 not-picked : {X : Type 0} (pick : Noted → Option X) (es : List Noted) (e : Noted) → pick e ≡ None → latest pick es ≡ latest pick (es ++ e ∷ [])
@@ -44,35 +44,56 @@ not-picked pick es e none = sym (latest-push pick es e ∙ ap (λ o. or_else o (
 away : {X : Type 0} (a : Bool) (x : X) (b : Bool) → b ≡ false → cond (a && b) (Some x) None ≡ None
 away a x b e = let n = and_right a b e in rw n
 
-module _ (s : Standing) (month : ℕ) (entries : List Noted) (i : InForce s month entries) where
-  pub force-filing : (f : Filing) → 16 ≤ length s.filings → f.first ≤ month → month ≤ f.last
-      → InForce (record { filings = set s.filings f.owner (Some f); readings = s.readings }) month (entries ++ filed (filed_of f) ∷ [])
-  force-filing f long low high =
-      let c : covers month (filed_of f) ≡ true = and_from _ _ (le-leb _ _ low) (le-leb _ _ high) in
+-- what is in force otherwise of that owner stays
+kept : {X Y : Type 0} (meaning : X → Y) (held : Standing → Option X) (xs : List Standing) (s : Standing) (at : ℕ) (d : Standing) → at < length xs → held s ≡ held (get_or xs at d)
+    → (owner : ℕ) (before : Option Y) → option_map meaning (held (get_or xs owner nothing)) ≡ before → option_map meaning (held (get_or (set xs at s) owner nothing)) ≡ before
+kept meaning held xs s at d long same owner before e = by (cases_eq at owner)
+  where
+    by : (at ≡ owner) ⊎ (at ≡ owner → ⊥) → option_map meaning (held (get_or (set xs at s) owner nothing)) ≡ before
+    by (inl p) =
+        let here = get_or-set_same xs at s nothing long in
+        ap (λ k. option_map meaning (held (get_or (set xs at s) k nothing))) (sym p) ∙ ap (λ t. option_map meaning (held t)) here ∙ ap (option_map meaning) same ∙ ap (λ t. option_map meaning (held t)) (get_or_default xs at d nothing long) ∙ ap (λ k. option_map meaning (held (get_or xs k nothing))) p ∙ e
+    by (inr n) = ap (λ t. option_map meaning (held t)) (get_or-set_other xs at owner s nothing (λ q. n (sym q))) ∙ e
+
+module _ (xs : List Standing) (month : ℕ) (entries : List Noted) (i : InForce xs month entries) where
+  pub force-filing : (f : Filing) (d : Standing) → f.owner < length xs → covers month (filed_of f) ≡ true
+      → InForce (set xs f.owner (record { filing = Some f; reading = (get_or xs f.owner d).reading })) month (entries ++ filed (filed_of f) ∷ [])
+  force-filing f d long c =
+      let s : Standing = record { filing = Some f; reading = (get_or xs f.owner d).reading } in
+      let many : length (set xs f.owner s) ≡ length xs = length-set xs f.owner s in
       record {
-        filings = λ o h. one_set filed_of s.filings f f.owner (omega (arith, f.span.0)) (covers month (filed_of f)) c o (latest (filing_for month o) entries) (i.filings o h) ∙ sym (latest-push (filing_for month o) entries (filed (filed_of f)));
-        readings = λ o h. i.readings o h ∙ not-picked (reading_for month o) entries (filed (filed_of f)) refl;
+        filings = λ o h. one_set filed_of (λ t. t.filing) xs f s refl f.owner long (covers month (filed_of f)) c o (latest (filing_for month o) entries) (i.filings o (omega (arith, many, h))) ∙ sym (latest-push (filing_for month o) entries (filed (filed_of f)));
+        readings = λ o h. kept metered_of (λ t. t.reading) xs s f.owner d long refl o (latest (reading_for month o) entries) (i.readings o (omega (arith, many, h))) ∙ not-picked (reading_for month o) entries (filed (filed_of f)) refl;
       }
 
-  pub force_reading : (r : Reading) → 16 ≤ length s.readings → r.month ≡ month
-      → InForce (record { filings = s.filings; readings = set s.readings r.owner (Some r) }) month (entries ++ metered (metered_of r) ∷ [])
-  force_reading r long same =
-      let c : eqb r.month month ≡ true = eq-eqb _ _ same in
+  pub force_reading : (r : Reading) (d : Standing) → r.owner < length xs → eqb r.month month ≡ true
+      → InForce (set xs r.owner (record { filing = (get_or xs r.owner d).filing; reading = Some r })) month (entries ++ metered (metered_of r) ∷ [])
+  force_reading r d long c =
+      let s : Standing = record { filing = (get_or xs r.owner d).filing; reading = Some r } in
+      let many : length (set xs r.owner s) ≡ length xs = length-set xs r.owner s in
       record {
-        filings = λ o h. i.filings o h ∙ not-picked (filing_for month o) entries (metered (metered_of r)) refl;
-        readings = λ o h. one_set metered_of s.readings r r.owner (omega (arith, r.within.1)) (eqb r.month month) c o (latest (reading_for month o) entries) (i.readings o h) ∙ sym (latest-push (reading_for month o) entries (metered (metered_of r)));
+        filings = λ o h. kept filed_of (λ t. t.filing) xs s r.owner d long refl o (latest (filing_for month o) entries) (i.filings o (omega (arith, many, h))) ∙ not-picked (filing_for month o) entries (metered (metered_of r)) refl;
+        readings = λ o h. one_set metered_of (λ t. t.reading) xs r s refl r.owner long (eqb r.month month) c o (latest (reading_for month o) entries) (i.readings o (omega (arith, many, h))) ∙ sym (latest-push (reading_for month o) entries (metered (metered_of r)));
       }
 
-  pub force_other_filing : (f : Filing) → covers month (filed_of f) ≡ false → InForce s month (entries ++ filed (filed_of f) ∷ [])
-  force_other_filing f c =
+  -- an entry that does not touch the month changes nothing
+  pub force_other : (e : Noted) → touches month e ≡ false → InForce xs month (entries ++ e ∷ [])
+  force_other (filed f) c =
       record {
-        filings = λ o h. i.filings o h ∙ not-picked (filing_for month o) entries (filed (filed_of f)) (away (eqb f.owner o) (filed_of f) (covers month (filed_of f)) c);
-        readings = λ o h. i.readings o h ∙ not-picked (reading_for month o) entries (filed (filed_of f)) refl;
+        filings = λ o h. i.filings o h ∙ not-picked (filing_for month o) entries (filed f) (away (eqb f.owner o) f (covers month f) c);
+        readings = λ o h. i.readings o h ∙ not-picked (reading_for month o) entries (filed f) refl;
+      }
+  force_other (metered r) c =
+      record {
+        filings = λ o h. i.filings o h ∙ not-picked (filing_for month o) entries (metered r) refl;
+        readings = λ o h. i.readings o h ∙ not-picked (reading_for month o) entries (metered r) (away (eqb r.owner o) r (eqb r.month month) c);
       }
 
-  pub force_other_reading : (r : Reading) → eqb r.month month ≡ false → InForce s month (entries ++ metered (metered_of r) ∷ [])
-  force_other_reading r c =
-      record {
-        filings = λ o h. i.filings o h ∙ not-picked (filing_for month o) entries (metered (metered_of r)) refl;
-        readings = λ o h. i.readings o h ∙ not-picked (reading_for month o) entries (metered (metered_of r)) (away (eqb r.owner o) (metered_of r) (eqb r.month month) c);
-      }
+-- the first owners' standings are in force as all are
+pub in-force-front : (xs : List Standing) (n month : ℕ) (entries : List Noted) → n ≤ length xs → InForce xs month entries → InForce (take n xs) month entries
+in-force-front xs n month entries h i =
+    let long : length (take n xs) ≡ n = length-take-le n xs h in
+    record {
+      filings = λ o k. ap (λ (s : Standing). option_map filed_of s.filing) (get_or-take n xs o nothing (omega (arith, long, k))) ∙ i.filings o (omega (arith, long, k));
+      readings = λ o k. ap (λ (s : Standing). option_map metered_of s.reading) (get_or-take n xs o nothing (omega (arith, long, k))) ∙ i.readings o (omega (arith, long, k));
+    }

@@ -1,14 +1,30 @@
--- Filings and readings that are granted.
-use Rattle.std.proofs.Common.{◌≡◌, ℕ, ◌<◌, true, false, ◌||◌, ltb, Ok, Result, ap}
-use Rattle.std.proofs.lemmas.Bool.{lt-ltb}
-use Rattle.book.specs.Checks.{filing_checks, reading_checks, full, outside_filing, verdict}
-use Rattle.book.specs.Entries.{Filed, Metered}
+-- Entries within their limits, in a journal that may be full.
+use Rattle.std.proofs.Common.{◌≡◌, List, ◌++◌, Some, None, Ok, Err, Option, Result, refl, sym, ap, ◌∙◌}
+use Rattle.charges.specs.Answered.{first_fault-pass, first_fault-stop}
+use Rattle.charges.specs.Checks.{Check, first_fault}
+use Rattle.book.specs.Answers.{fault_of}
+use Rattle.book.specs.Checks.{answered, verdict}
 use Rattle.book.specs.Workings.{Refusal}
 
-pub filing-granted : (k owners n room : ℕ) (f : Filed) → k ≡ n → f.owner < owners → (ltb 359 f.first || (ltb 359 f.last || ltb f.last f.first)) ≡ false → outside_filing f ≡ false → full n room ≡ false
-    → ◌≡◌ {A = Result ℕ Refusal} (Ok k) (verdict n (filing_checks owners n room f))
-filing-granted k owners n room f e known months figures spare = let own : ltb f.owner owners ≡ true = lt-ltb _ _ known in rw (own, months, figures, spare) (ap Ok e)
+fault_of-answered : {X : Type 0} (x : X) (o : Option Refusal) → fault_of (answered x o) ≡ o
+fault_of-answered x None = refl
+fault_of-answered x (Some f) = refl
 
-pub reading-granted : (k owners n room : ℕ) (r : Metered) → k ≡ n → r.owner < owners → ltb 359 r.month ≡ false → (ltb 100000000 r.load || ltb 100000 r.peak) ≡ false → full n room ≡ false
-    → ◌≡◌ {A = Result ℕ Refusal} (Ok k) (verdict n (reading_checks owners n room r))
-reading-granted k owners n room r e known month figures spare = let own : ltb r.owner owners ≡ true = lt-ltb _ _ known in rw (own, month, figures, spare) (ap Ok e)
+abbrev value_or : {X : Type 0} → X → Result X Refusal → X
+value_or z (Ok x) = x
+value_or z (Err f) = z
+
+value_or-answered : {X : Type 0} (z : X) (o : Option Refusal) → value_or z (answered z o) ≡ z
+value_or-answered z None = refl
+value_or-answered z (Some f) = refl
+
+-- what fails no limit goes by the checks that follow, and what fails one is refused by it
+module _ {X Y : Type 0} (y : Y) (limits rest : List (Check Refusal)) (z : X) where
+  pub within-limits : (x : X) → ◌≡◌ {A = Result X Refusal} (Ok x) (verdict z limits) → verdict y rest ≡ verdict y (limits ++ rest)
+  within-limits x e = ap (answered y) (sym (first_fault-pass limits rest (sym (ap fault_of e ∙ fault_of-answered z (first_fault limits)))))
+
+  pub same : (x : X) → ◌≡◌ {A = Result X Refusal} (Ok x) (verdict z limits) → x ≡ z
+  same x e = ap (value_or z) e ∙ value_or-answered z (first_fault limits)
+
+  pub outside-limits : (f : Refusal) → ◌≡◌ {A = Result X Refusal} (Err f) (verdict z limits) → ◌≡◌ {A = Result Y Refusal} (Err f) (verdict y (limits ++ rest))
+  outside-limits f e = ap (answered y) (sym (first_fault-stop limits rest f (sym (ap fault_of e ∙ fault_of-answered z (first_fault limits)))))

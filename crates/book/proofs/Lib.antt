@@ -1,3 +1,4 @@
+pub mod Firsts
 pub mod Force
 pub mod Differences
 pub mod Adjusting

@@ -1,18 +1,19 @@
 -- What posting an opening comes to, as the code goes through its checks.
-use Rattle.std.proofs.Common.{◌≡◌, ℕ, zero, suc, ◌<◌, ◌≤◌, min, Bool, true, false, cond, eqb, ltb, ◌⊎◌, List, [], ◌∷◌, map, length, get_or, take, set, replicate, ℤ, pos, nat_abs, IfOk, Some, None, Ok, Err, Option, Result, sym, refl, ap, ◌∙◌, inl, inr, arith}
+use Rattle.std.proofs.Common.{zero, pos, replicate, nat_abs, ◌≡◌, ℕ, suc, ◌<◌, ◌≤◌, min, Bool, true, false, cond, eqb, ltb, ◌⊎◌, List, [], ◌∷◌, map, length, get_or, take, set, ℤ, Some, None, Ok, Err, Option, Result, Vec, sym, refl, ap, ◌∙◌, inl, inr, arith}
 use Rattle.std.proofs.lemmas.List.{take-map, take-take, take_all, length-take, get_or-set_same, get_or-set_other}
 use Rattle.std.proofs.lemmas.Bool.{cases_lt, lt-ltb, le-ltb, eqb-true, eqb-false}
+use Rattle.std.specs.declared.alloc.Global.{Global}
 use Rattle.charges.specs.Outcomes.{Outcome}
 use Rattle.charges.specs.declared.table.OwnerRow.{OwnerRow}
-use Rattle.book.specs.Answers.{nets_answer, nets_in, told}
-use Rattle.book.specs.Entries.{Noted}
+use Rattle.book.specs.Answers.{nets_answer}
+use Rattle.book.specs.Books.{areas_of, mark_of}
+use Rattle.book.specs.Calls.{count_of, entries_in}
 use Rattle.book.specs.Meaning.{noted}
-use Rattle.book.specs.Postings.{nets_before, cents_of, posting, lines_from}
+use Rattle.book.specs.Postings.{nets_before, cents_of, posting_in, lines_from}
 use Rattle.book.specs.States.{is_current}
-use Rattle.book.specs.Workings.{Refusal, plain, placed, Working, less, worked_out}
+use Rattle.book.specs.Workings.{Refusal, plain, Working, less, worked_out}
+use Rattle.book.specs.declared.book.Book.{Book}
 use Rattle.book.specs.declared.entry.Entry.{Entry}
-use Rattle.book.specs.declared.fault.BookFault.{BookFault}
-use Rattle.book.specs.declared.nets.Nets.{Nets}
 
 -- the first n of the entries that count
 pub first_counted : (items : List Entry) (n counted k : ℕ) → k ≡ min n counted → map noted (take k items) ≡ take n (map noted (take counted items))
@@ -26,40 +27,43 @@ first_counted items n counted k e = by (cases_lt counted n)
         let some : k ≡ n = omega arith in
         ap (λ m. map noted (take m items)) some ∙ ap (map noted) (sym (take-take n counted items h)) ∙ sym (take-map noted n (take counted items))
 
--- from no entries nothing is worked out
-pub nothing-worked : (meaning : ℕ → List OwnerRow → Outcome) (areas : List ℕ) (month : ℕ) → 1 ≤ length areas → ◌≡◌ {A = Result (List ℤ) Refusal} (nets_answer (worked_out meaning areas month [])) (Err (placed 9 0))
-nothing-worked meaning [] month h = absurd (omega arith)
-nothing-worked meaning (a ∷ others) month h = refl
+module _ {C : Type 0} (meaning : ℕ → List OwnerRow → Outcome) (book : Book C) (j : Vec Entry Global) (month n free : ℕ) where
+  abbrev workedAt : ℕ → Working
+  workedAt k = worked_out meaning (areas_of book) month (take k (entries_in j))
 
-pub some-worked : (meaning : ℕ → List OwnerRow → Outcome) (areas : List ℕ) (month n : ℕ) (entries : List Noted) (r : Result Nets BookFault) → 1 ≤ length areas → told nets_in r ≡ nets_answer (worked_out meaning areas month (take n entries)) → IfOk r (λ _. 1 ≤ n)
-some-worked meaning areas month n entries (Err e) h is = tt
-some-worked meaning areas month zero entries (Ok nets) h is =
-    let bad : ◌≡◌ {A = Result (List ℤ) Refusal} (Ok (nets_in nets)) (Err (placed 9 0)) = is ∙ nothing-worked meaning areas month h in
-    let z : ◌≡◌ {A = ℕ} 0 1 = cc in absurd (omega arith)
-some-worked meaning areas month (suc n) entries (Ok nets) h is = omega arith
+  abbrev owners : ℕ
+  owners = length (areas_of book)
 
-module _ (workedAt : ℕ → Working) (owners journal n month : ℕ) (mark : Option ℕ) (entries : List Noted) (free : ℕ) where
+  abbrev journal : ℕ
+  journal = count_of j
+
+  abbrev current : Bool
+  current = is_current (mark_of book month) month (take n (entries_in j))
+
+  abbrev before : Result (List ℤ) Refusal
+  before = nets_before workedAt owners (mark_of book month)
+
   abbrev answer : Result (List ℤ) Refusal
-  answer = posting workedAt owners journal n month mark entries free
+  answer = posting_in meaning book j month n free
 
   pub beyond : journal < n → answer ≡ Err (plain 16)
   beyond h = let e : ltb journal n ≡ true = lt-ltb journal n h in rw e refl
 
   module _ (low : n ≤ journal) where
-    pub untouched : is_current mark month (take n entries) ≡ true → answer ≡ Err (plain 17)
+    pub untouched : current ≡ true → answer ≡ Err (plain 17)
     untouched h = let e : ltb journal n ≡ false = le-ltb journal n low in rw (e, h) refl
 
-    module _ (due : is_current mark month (take n entries) ≡ false) where
-      clear : (new old : Result (List ℤ) Refusal) → nets_answer (workedAt n) ≡ new → nets_before workedAt owners mark ≡ old → answer ≡ cents_of None new old (ltb free owners)
+    module _ (due : current ≡ false) where
+      clear : (new old : Result (List ℤ) Refusal) → nets_answer (workedAt n) ≡ new → before ≡ old → answer ≡ cents_of None new old (ltb free owners)
       clear new old p q = let e : ltb journal n ≡ false = le-ltb journal n low in rw (e, due, p, q) refl
 
       pub new-denied : (f : Refusal) → nets_answer (workedAt n) ≡ Err f → answer ≡ Err f
-      new-denied f p = clear (Err f) (nets_before workedAt owners mark) p refl
+      new-denied f p = clear (Err f) before p refl
 
-      pub old-denied : (new : List ℤ) (f : Refusal) → nets_answer (workedAt n) ≡ Ok new → nets_before workedAt owners mark ≡ Err f → answer ≡ Err f
+      pub old-denied : (new : List ℤ) (f : Refusal) → nets_answer (workedAt n) ≡ Ok new → before ≡ Err f → answer ≡ Err f
       old-denied new f p q = clear (Ok new) (Err f) p q
 
-      module _ (new old : List ℤ) (p : nets_answer (workedAt n) ≡ Ok new) (q : nets_before workedAt owners mark ≡ Ok old) where
+      module _ (new old : List ℤ) (p : nets_answer (workedAt n) ≡ Ok new) (q : before ≡ Ok old) where
         pub short : free < owners → answer ≡ Err (plain 18)
         short h = clear (Ok new) (Ok old) p q ∙ ap (cents_of None (Ok new) (Ok old)) (lt-ltb free owners h)
 
@@ -75,6 +79,10 @@ mark-kept marks month m = by (eqb m month) refl
     by false e = refl
 
 -- nothing billed before
+pub zeros-are : {X : Type 0} (xs : List X) → map (λ _. pos 0) xs ≡ replicate (length xs) (pos 0)
+zeros-are [] = refl
+zeros-are (x ∷ xs) = ap (λ rest. pos 0 ∷ rest) (zeros-are xs)
+
 pub zeros_within : (n k limit : ℕ) → nat_abs (get_or (replicate n (pos 0)) k (pos 0)) ≤ limit
 zeros_within zero k limit = omega arith
 zeros_within (suc n) zero limit = omega arith

@@ -1,20 +1,20 @@
 -- The rows of a month's table, and which rows make a table.
-use Rattle.std.proofs.Common.{◌≡◌, ℕ, suc, ◌+◌, ◌<◌, ◌≤◌, Bool, true, false, cond, not, ◌||◌, eqb, ltb, ◌⊎◌, List, [], ◌∷◌, ◌++◌, length, get_or, take, drop, set, is_some, Some, None, Option, sym, refl, ap, ◌∙◌, inl, inr, append_assoc, add-one, arith}
+use Rattle.std.proofs.Common.{◌≡◌, ℕ, suc, ◌+◌, ◌<◌, ◌≤◌, Bool, true, false, cond, not, ◌||◌, eqb, ltb, List, [], ◌∷◌, length, get_or, is_some, Some, None, Option, MatchOption, sym, refl, ap, ◌∙◌, add-zero, arith}
 use Rattle.std.specs.Option.{option_map}
-use Rattle.std.proofs.lemmas.List.{at_drop_more, at_drop_all, take_more_set, get_or-set_same, get_or-set_other, get_or_default, append-nil}
-use Rattle.std.proofs.lemmas.Bool.{cases_eq, or_from, le-ltb, ne_eqb}
-use Rattle.charges.specs.Checks.{first_fault}
+use Rattle.std.proofs.lemmas.Bool.{or_from, le-ltb, ne_eqb}
+use Rattle.std.specs.List.{AllWithin, HoldsAt}
+use Rattle.charges.specs.Burdens.{along}
+use Rattle.charges.specs.Checks.{first_fault, each_from}
 use Rattle.charges.specs.Rows.{RowWithin, nobody}
 use Rattle.charges.specs.Tables.{table_checks, outside_areas, outside_figures, outside_figure}
 use Rattle.charges.specs.declared.fault.TableFault.{TableFault}
 use Rattle.charges.specs.declared.fault.TableFault.TheVariants.{Totals}
 use Rattle.charges.specs.declared.table.OwnerRow.{OwnerRow}
 use Rattle.book.specs.Entries.{Noted}
-use Rattle.book.specs.Forces.{InForce}
+use Rattle.book.specs.Forces.{InForce, nothing}
 use Rattle.book.specs.Meaning.{filed_of, metered_of}
-use Rattle.book.specs.Workings.{filing_of, reading_of, row_for, rows_from, totals_check}
-use Rattle.book.specs.declared.entry.Filing.{Filing}
-use Rattle.book.specs.declared.entry.Reading.{Reading}
+use Rattle.book.specs.Workings.{placed, filing_of, reading_of, row_for, rows_from, totals_check}
+use Rattle.book.proofs.Firsts.{first-fault-is}
 use Rattle.book.specs.declared.standings.Standing.{Standing}
 
 is_some-mapped : {X Y : Type 0} (f : X → Y) (o : Option X) → is_some (option_map f o) ≡ is_some o
@@ -25,44 +25,51 @@ not-not : (b : Bool) → not (not b) ≡ b
 not-not true = refl
 not-not false = refl
 
--- a test for nothing at a place tells of what is in force
-pub none-tells : {X Y : Type 0} (f : X → Y) (xs : List (Option X)) (i : ℕ) (d : Option X) (o : Option Y) (b : Bool) → i < length xs
-    → option_map f (get_or xs i None) ≡ o → is_some (get_or xs i d) ≡ not b → not (is_some o) ≡ b
-none-tells f xs i d o b h is test =
-    ap (λ p. not (is_some p)) (sym is) ∙ ap not (is_some-mapped f (get_or xs i None)) ∙ ap (λ p. not (is_some p)) (get_or_default xs i None d h) ∙ ap not test ∙ not-not b
+-- a test for nothing tells of what is in force
+none-tells : {X Y : Type 0} (f : X → Y) (held : Option X) (o : Option Y) (b : Bool) → option_map f held ≡ o → is_some held ≡ not b → not (is_some o) ≡ b
+none-tells f held o b is test = ap (λ p. not (is_some p)) (sym is) ∙ ap not (is_some-mapped f held) ∙ ap not test ∙ not-not b
 
-module _ (month : ℕ) (entries : List Noted) where
-  rows_next : (areas : List ℕ) (i : ℕ) → i < length areas → rows_from month entries i (drop i areas) ≡ row_for (get_or areas i 0) (filing_of month entries i) (reading_of month entries i) ∷ rows_from month entries (i + 1) (drop (i + 1) areas)
-  rows_next areas i h =
-      at_drop_more (rows_from month entries i) areas i 0 h
-      ∙ ap (λ k. row_for (get_or areas i 0) (filing_of month entries i) (reading_of month entries i) ∷ rows_from month entries k (drop (i + 1) areas)) (sym (add-one i))
+-- the first owner of whom something is not in force, by its place
+pub first-lacking : {X Y : Type 0} (held : Standing → Option X) (meaning : X → Y) (latest : ℕ → Option Y) (number : ℕ) (areas : List ℕ) (standings : List Standing) → length areas ≡ length standings
+    → ((k : ℕ) → k < length standings → option_map meaning (held (get_or standings k nothing)) ≡ latest k)
+    → (r : Option ℕ) → MatchOption r (AllWithin (λ s. is_some (held s) ≡ true) standings 0 (length standings)) (λ i. (i < length standings) × HoldsAt (λ s. is_some (held s) ≡ false) standings i × AllWithin (λ s. is_some (held s) ≡ true) standings 0 i)
+    → option_map (placed number) r ≡ first_fault (each_from (λ k area. record { fails = not (is_some (latest k)); fault = placed number k }) 0 areas)
+first-lacking held meaning latest number areas standings many force =
+    first-fault-is (λ k area. record { fails = not (is_some (latest k)); fault = placed number k }) areas 0 standings nothing many (λ s. is_some (held s) ≡ false) (λ s. is_some (held s) ≡ true) (placed number) (λ k area. refl)
+    (λ k h lacks. none-tells meaning _ _ true (force k h) lacks) (λ k h has. none-tells meaning _ _ false (force k h) has)
 
-  -- one row more
-  pub rows_more : (areas : List ℕ) (rows : List OwnerRow) (i : ℕ) (r : OwnerRow) (s : Standing) (f : Option Filing) (m : Option Reading) → i < length areas → i < length rows → InForce s month entries → i < 16
-      → f ≡ get_or s.filings i None → m ≡ get_or s.readings i None → r ≡ row_for (get_or areas i 0) (option_map filed_of f) (option_map metered_of m)
-      → take i rows ++ rows_from month entries i (drop i areas) ≡ rows_from month entries 0 areas
-      → take (i + 1) (set rows i r) ++ rows_from month entries (i + 1) (drop (i + 1) areas) ≡ rows_from month entries 0 areas
-  rows_more areas rows i r s f m h k force few f-is m-is r-is so_far =
-      let filing : option_map filed_of f ≡ filing_of month entries i = ap (option_map filed_of) f-is ∙ force.filings i few in
-      let reading : option_map metered_of m ≡ reading_of month entries i = ap (option_map metered_of) m-is ∙ force.readings i few in
-      let row : r ≡ row_for (get_or areas i 0) (filing_of month entries i) (reading_of month entries i) = r-is ∙ ap (λ o. row_for (get_or areas i 0) o (option_map metered_of m)) filing ∙ ap (row_for (get_or areas i 0) (filing_of month entries i)) reading in
-      let rest = rows_from month entries (i + 1) (drop (i + 1) areas) in
-      ap (λ front. front ++ rest) (take_more_set rows i r k) ∙ append_assoc (take i rows) (r ∷ []) rest
-      ∙ ap (λ x. take i rows ++ x ∷ rest) row ∙ ap (λ xs. take i rows ++ xs) (sym (rows_next areas i h)) ∙ so_far
+-- the row of an owner, by its area and what stands for it
+abbrev pub standing_row : ℕ → Standing → OwnerRow
+standing_row area s = row_for area (option_map filed_of s.filing) (option_map metered_of s.reading)
 
-  pub rows_all : (areas : List ℕ) (rows : List OwnerRow) (i : ℕ) → i ≡ length areas → take i rows ++ rows_from month entries i (drop i areas) ≡ rows_from month entries 0 areas → take (length areas) rows ≡ rows_from month entries 0 areas
-  rows_all areas rows i e so_far =
-      ap (λ n. take n rows) (sym e) ∙ sym (append-nil (take i rows)) ∙ ap (λ xs. take i rows ++ xs) (sym (at_drop_all (rows_from month entries i) areas i (omega arith))) ∙ so_far
+-- the rows of owners whose first has the number k
+rows-from : (month : ℕ) (entries : List Noted) (k : ℕ) (areas : List ℕ) (standings : List Standing) → length standings ≡ length areas
+    → ((i : ℕ) → i < length standings → option_map filed_of (get_or standings i nothing).filing ≡ filing_of month entries (k + i))
+    → ((i : ℕ) → i < length standings → option_map metered_of (get_or standings i nothing).reading ≡ reading_of month entries (k + i))
+    → along standing_row areas standings ≡ rows_from month entries k areas
+rows-from month entries k [] standings many filings readings = refl
+rows-from month entries k (area ∷ areas) [] many filings readings = absurd (omega arith)
+rows-from month entries k (area ∷ areas) (s ∷ standings) many filings readings =
+    let filing = rw add-zero at (filings 0 (omega arith)) in
+    let reading = rw add-zero at (readings 0 (omega arith)) in
+    let rest = rows-from month entries (suc k) areas standings (omega arith)
+    (λ i h. let e : suc k + i ≡ k + suc i = omega arith in rw e (filings (suc i) (omega arith)))
+    (λ i h. let e : suc k + i ≡ k + suc i = omega arith in rw e (readings (suc i) (omega arith)))
+    in
+    rw (filing, reading) (ap (λ rows. row_for area (filing_of month entries k) (reading_of month entries k) ∷ rows) rest)
+
+pub rows-along : (month : ℕ) (entries : List Noted) (areas : List ℕ) (standings : List Standing) → length standings ≡ length areas → InForce standings month entries → along standing_row areas standings ≡ rows_from month entries 0 areas
+rows-along month entries areas standings many force =
+    rows-from month entries 0 areas standings many
+    (λ i h. let e : 0 + i ≡ i = omega arith in rw e (force.filings i h))
+    (λ i h. let e : 0 + i ≡ i = omega arith in rw e (force.readings i h))
+
+pub length-rows : (month : ℕ) (entries : List Noted) (k : ℕ) (areas : List ℕ) → length (rows_from month entries k areas) ≡ length areas
+length-rows month entries k [] = refl
+length-rows month entries k (area ∷ areas) = ap suc (length-rows month entries (suc k) areas)
 
 pub nobody-within : RowWithin nobody
 nobody-within = record { required = (omega arith, omega arith, omega arith); used = (omega arith, omega arith, omega arith, omega arith) }
-
-pub within-set : (rows : List OwnerRow) (i : ℕ) (r : OwnerRow) → i < length rows → RowWithin r → ((k : ℕ) → RowWithin (get_or rows k nobody)) → (k : ℕ) → RowWithin (get_or (set rows i r) k nobody)
-within-set rows i r h fits all k = by (cases_eq k i)
-  where
-    by : (k ≡ i) ⊎ (k ≡ i → ⊥) → RowWithin (get_or (set rows i r) k nobody)
-    by (inl e) = let here = get_or-set_same rows i r nobody h in rw (e, here) fits
-    by (inr n) = let there = get_or-set_other rows i k r nobody n in rw there (all k)
 
 -- rows within their limits fail no check but that of the totals
 inside-figure : (r : OwnerRow) → RowWithin r → outside_figure r ≡ false
@@ -87,3 +94,7 @@ only-totals rows some few all =
 pub totals-fail : (b : Bool) (f : TableFault) → cond b (Some Totals) None ≡ Some f → b ≡ true
 totals-fail true f e = refl
 totals-fail false f e = let z : ◌≡◌ {A = ℕ} 0 1 = cc in absurd (omega arith)
+
+pub totals-pass : (b : Bool) → ◌≡◌ {A = Option TableFault} (cond b (Some Totals) None) None → b ≡ false
+totals-pass true e = let z : ◌≡◌ {A = ℕ} 0 1 = cc in absurd (omega arith)
+totals-pass false e = refl

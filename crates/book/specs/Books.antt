@@ -1,9 +1,10 @@
 -- What a book holds: the owners' areas, and the mark of each settled month.
-use Rattle.std.specs.Prelude.{◌≡◌, ℕ, cond, List, take, None, Option, ◌==◌, slice_index_or}
+use Rattle.std.specs.Prelude.{◌≡◌, ℕ, cond, List, None, Option, ◌==◌, slice_index_or}
+use Rattle.charges.specs.Owners.{items_of}
 use Rattle.book.specs.declared.book.Book.{Book}
 
 abbrev pub areas_of : {C : Type 0} → Book C → List ℕ
-areas_of b = take b.count b.areas
+areas_of b = items_of b.areas
 
 abbrev pub mark_of : {C : Type 0} → Book C → ℕ → Option ℕ
 mark_of b month = slice_index_or b.marks month None

@@ -1,11 +1,15 @@
 -- What opening a month checks, answers and leaves in the draft list.
 use Rattle.std.specs.Prelude.{ℕ, min, List, [], ◌∷◌, ◌++◌, map, length, take, drop, ℤ, Some, None, Ok, Err, vec_items, vec_len, Option, Result, Vec, nat_lt}
 use Rattle.std.specs.declared.alloc.Global.{Global}
-use Rattle.charges.specs.Checks.{Check}
+use Rattle.charges.specs.Checks.{Check, first_fault}
+use Rattle.charges.specs.Outcomes.{Outcome}
+use Rattle.charges.specs.declared.table.OwnerRow.{OwnerRow}
+use Rattle.book.specs.Books.{areas_of, mark_of}
 use Rattle.book.specs.Entries.{Noted}
 use Rattle.book.specs.Meaning.{noted}
 use Rattle.book.specs.States.{is_current}
-use Rattle.book.specs.Workings.{Refusal, plain, Working, denied, worked}
+use Rattle.book.specs.Workings.{Refusal, plain, Working, denied, worked, worked_out}
+use Rattle.book.specs.declared.book.Book.{Book}
 use Rattle.book.specs.declared.entry.Entry.{Entry}
 use Rattle.book.specs.declared.opening.Opening.{Opening}
 
@@ -28,6 +32,11 @@ open_checks owners places month mark entries =
 abbrev pub worked_after : Option Refusal → Working → Working
 worked_after (Some f) w = denied f
 worked_after None w = w
+
+-- a month of a book and a journal as its opening works it out
+abbrev pub opening_in : {C : Type 0} → (ℕ → List OwnerRow → Outcome) → Book C → Vec Entry Global → ℕ → ℕ → Working
+opening_in meaning book journal month places =
+    worked_after (first_fault (open_checks (length (areas_of book)) places month (mark_of book month) (entries_in journal))) (worked_out meaning (areas_of book) month (entries_in journal))
 
 -- an opening holds month and count
 abbrev pub opening_of : Opening → ℕ × ℕ

@@ -55,3 +55,10 @@ mark_after n mark (Err f) = mark
 abbrev pub posting_in : {C : Type 0} → (ℕ → List OwnerRow → Outcome) → Book C → Vec Entry Global → ℕ → ℕ → ℕ → Result (List ℤ) Refusal
 posting_in meaning book journal month n free =
     posting (λ k. worked_out meaning (areas_of book) month (take k (entries_in journal))) (length (areas_of book)) (count_of journal) n month (mark_of book month) (entries_in journal) free
+
+-- the lines that it adds, and the mark that the month then has
+abbrev pub lines_in : {C : Type 0} → (ℕ → List OwnerRow → Outcome) → Book C → Vec Entry Global → ℕ → ℕ → ℕ → List Row
+lines_in meaning book journal month n free = lines_of month n (posting_in meaning book journal month n free)
+
+abbrev pub mark_in : {C : Type 0} → (ℕ → List OwnerRow → Outcome) → Book C → Vec Entry Global → ℕ → ℕ → ℕ → Option ℕ
+mark_in meaning book journal month n free = mark_after n (mark_of book month) (posting_in meaning book journal month n free)

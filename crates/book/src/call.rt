@@ -4,6 +4,7 @@ use crate::written::Written;
 
 #[derive(Clone, Copy)]
 pub enum Call {
+    // As it is: the figures one by one, as in `Book::file`.
     File {
         owner: u8,
         first: u16,
@@ -37,7 +38,7 @@ pub enum State {
     Current { mark: u16 },
 }
 
-#[derive(Clone, Copy)]
+#[derive(Clone, Copy, PartialEq, Eq, Debug)]
 pub enum Reply {
     // The number of the entry.
     Entered {
@@ -47,6 +48,7 @@ pub enum Reply {
     Opened {
         month: u16,
         count: u16,
+        // As it is: a rule of the project: the draft list has sixteen places, whatever the owners' count.
         draft: [i64; 16],
     },
     Posted,

@@ -1,5 +1,5 @@
 // Which entries touch a month, and whether a settled month is current.
-ghost use Rattle.std.specs.Prelude.{◌≡◌, ◌≤◌, min, not, map, length, take, vec_len};
+ghost use Rattle.std.specs.Prelude.{◌≡◌, min, map, take, vec_len};
 ghost use Rattle.charges.specs.Checks.{any_by};
 ghost use Rattle.book.specs.Calls.{entries_in};
 ghost use Rattle.book.specs.Entries.{touches};
@@ -9,7 +9,7 @@ ghost use Rattle.book.specs.States.{is_current};
 use crate::entry::Entry;
 
 // Whether an entry touches a month.
-fn touches(entry: &Entry, month: u16) -> bool
+pub(crate) fn touches(entry: &Entry, month: u16) -> bool
     ensures { result ≡ touches month (noted entry.now) }
 {
     match *entry {
@@ -22,12 +22,7 @@ fn touches(entry: &Entry, month: u16) -> bool
 pub(crate) fn touched(entries: &[Entry], month: u16) -> bool
     ensures { result ≡ any_by (touches month) (map noted entries.now) }
 {
-    for entry in entries {
-        if touches(entry, month) {
-            return true;
-        }
-    }
-    false
+    entries.iter().any(|entry| touches(entry, month))
 }
 
 // Whether a month with this mark is current: no entry from the mark on touches it.
@@ -46,6 +41,13 @@ pub(crate) fn counted(journal: &Vec<Entry>) -> u16
     ensures { result ≡ min (vec_len journal.now) 8192 }
 {
     journal.len().min(8192) as u16
+}
+
+// The entries of a journal that count.
+pub(crate) fn counted_entries(journal: &Vec<Entry>) -> &[Entry]
+    ensures { map noted result.now ≡ entries_in journal.now }
+{
+    &journal.as_slice()[0..usize::from(counted(journal))]
 }
 
 // The first so many entries of a journal.

@@ -1,5 +1,5 @@
 // Setting a book up, filing and reading.
-ghost use Rattle.std.specs.Prelude.{◌≡◌, ℕ, ◌≤◌, true, false, [], length, take, IfOk, Some, None, vec_capacity, Vec, MatchResult, nat_lt, slice_index};
+ghost use Rattle.std.specs.Prelude.{◌≡◌, ℕ, ◌≤◌, false, [], length, take, IfOk, Some, None, vec_capacity, Vec, MatchResult, nat_lt, slice_index};
 ghost use Rattle.std.specs.declared.alloc.Global.{Global};
 ghost use Rattle.charges.specs.Checks.{first_fault, any_by};
 ghost use Rattle.book.specs.Accounts.{Account};
@@ -11,32 +11,13 @@ ghost use Rattle.book.specs.declared.entry.Entry.{Entry};
 
 use crate::book::Book;
 use crate::fault::BookFault;
-use charges::Charge;
+use charges::{Charge, Owners};
 
 // Whether an area is none of the three.
 fn strays(areas: &[u8]) -> bool
     ensures { result ≡ any_by (λ a. nat_lt 2 a) areas.now }
 {
-    for area in areas {
-        if *area > 2 {
-            return true;
-        }
-    }
-    false
-}
-
-// The areas by value, with 0 where there is no owner.
-fn placed_areas(areas: &[u8]) -> [u8; 16]
-    requires few { length areas.now ≤ 16 }
-    requires within { any_by (λ a. nat_lt 2 a) areas.now ≡ false }
-    ensures value { take (length areas.now) result ≡ areas.now }
-    ensures within { (k : ℕ) → slice_index result k ≤ 2 }
-{
-    let mut placed = [0; 16];
-    for i in 0..areas.len() {
-        placed[i] = areas[i];
-    }
-    placed
+    areas.iter().any(|area| *area > 2)
 }
 
 impl<C: Charge + Drop> Book<C> {
@@ -45,12 +26,12 @@ impl<C: Charge + Drop> Book<C> {
         ensures book { MatchResult result (λ b. (first_fault (set_up_checks areas.now) ≡ None) × (areas_of b ≡ areas.now) × (b.charge ≡ charge) × ((month : ℕ) → mark_of b month ≡ None)) (λ e. first_fault (set_up_checks areas.now) ≡ Some (refusal e)) }
         ensures begins { IfOk result (λ b. (journal : Vec Entry Global) (free : ℕ) → entries_of journal ≡ [] → Account (C.meaning b.charge) (record { areas = areas.entry.now; meaning = C.meaning charge; room = vec_capacity journal; lines = free }) [] b journal [] free) }
     {
-        if areas.len() == 0 || areas.len() > 16 || strays(areas) {
+        let owners = Owners::new(areas).ok_or(BookFault::Owners)?;
+        if areas.is_empty() || strays(areas) {
             return Err(BookFault::Owners);
         }
         Ok(Book {
-            areas: placed_areas(areas),
-            count: areas.len(),
+            areas: owners,
             charge,
             marks: [None; 360],
         })

@@ -1,14 +1,13 @@
 // Filing and reading: one entry more in the journal, or a refusal.
-ghost use Rattle.std.specs.Prelude.{◌≡◌, ℕ, ◌||◌, List, [], ◌∷◌, ◌++◌, length, vec_len, vec_capacity, nat_lt};
-ghost use Rattle.rolls.specs.Rows.{Row};
-ghost use Rattle.book.specs.Accounts.{Account};
+ghost use Rattle.std.specs.Prelude.{◌≡◌, ◌||◌, [], ◌∷◌, length, vec_len, vec_capacity, nat_lt};
+ghost use Rattle.book.specs.Accounts.{Follows};
 ghost use Rattle.book.specs.Answers.{told};
 ghost use Rattle.book.specs.Books.{areas_of};
-ghost use Rattle.book.specs.Checks.{filing_checks, reading_checks, full, outside_filing, verdict};
+ghost use Rattle.book.specs.Checks.{filing_limits, reading_limits, room_check, full, outside_filing, verdict};
 ghost use Rattle.book.specs.Entries.{filed, metered};
-ghost use Rattle.book.specs.Histories.{Event, Terms, entered, event_of, files, reads};
-ghost use Rattle.book.specs.Journals.{Enters};
-ghost use Rattle.book.specs.Meaning.{filed_as, metered_as};
+ghost use Rattle.book.specs.Histories.{entered, event_of, files, reads};
+ghost use Rattle.book.specs.Journals.{Enters, filing_in, reading_in};
+ghost use Rattle.book.specs.Meaning.{filed_as, filed_of, metered_as, metered_of, noted};
 
 use crate::book::Book;
 use crate::entry::{Entry, Filing, Reading};
@@ -37,10 +36,23 @@ fn is_full(journal: &Vec<Entry>) -> bool
     journal.len() >= 8192 || journal.len() >= journal.capacity()
 }
 
+// Enters one entry, if the journal takes one more, and answers its number.
+fn enter(journal: &mut Vec<Entry>, entry: Entry) -> Result<usize, BookFault>
+    ensures answer { told (λ i. i) result ≡ verdict (vec_len journal.old) (room_check (vec_len journal.old) (vec_capacity journal.old) ∷ []) }
+    ensures journal { Enters (noted entry) result journal.old journal.new }
+{
+    if is_full(journal) {
+        return Err(BookFault::JournalFull);
+    }
+    let number = journal.len();
+    journal.push_reserved(entry);
+    Ok(number)
+}
+
 impl<C: Charge> Book<C> {
-    fn enter_filing(
+    // A filing of one of the owners, within its limits.
+    fn filing(
         &self,
-        journal: &mut Vec<Entry>,
         owner: u8,
         first: u16,
         last: u16,
@@ -48,11 +60,10 @@ impl<C: Charge> Book<C> {
         nhv: i64,
         load: u32,
         peak: u32,
-    ) -> Result<usize, BookFault>
-        ensures answer { told (λ i. i) result ≡ verdict (vec_len journal.old) (filing_checks (length (areas_of self.now)) (vec_len journal.old) (vec_capacity journal.old) (filed_as owner first last ehv nhv load peak)) }
-        ensures journal { Enters (filed (filed_as owner first last ehv nhv load peak)) result journal.old journal.new }
+    ) -> Result<Filing, BookFault>
+        ensures { told filed_of result ≡ verdict (filed_as owner first last ehv nhv load peak) (filing_limits (length (areas_of self.now)) (filed_as owner first last ehv nhv load peak)) }
     {
-        if usize::from(owner) >= self.count {
+        if usize::from(owner) >= self.areas.count() {
             return Err(BookFault::UnknownOwner);
         }
         if outside_months(first, last) {
@@ -61,11 +72,7 @@ impl<C: Charge> Book<C> {
         if outside_filing(ehv, nhv, load, peak) {
             return Err(BookFault::Figure);
         }
-        if is_full(journal) {
-            return Err(BookFault::JournalFull);
-        }
-        let number = journal.len();
-        let filing = Filing {
+        Ok(Filing {
             owner,
             first,
             last,
@@ -73,23 +80,14 @@ impl<C: Charge> Book<C> {
             nhv,
             load,
             peak,
-        };
-        journal.push_reserved(Entry::Filing(filing));
-        Ok(number)
+        })
     }
 
-    fn enter_reading(
-        &self,
-        journal: &mut Vec<Entry>,
-        month: u16,
-        owner: u8,
-        load: u32,
-        peak: u32,
-    ) -> Result<usize, BookFault>
-        ensures answer { told (λ i. i) result ≡ verdict (vec_len journal.old) (reading_checks (length (areas_of self.now)) (vec_len journal.old) (vec_capacity journal.old) (metered_as month owner load peak)) }
-        ensures journal { Enters (metered (metered_as month owner load peak)) result journal.old journal.new }
+    // A reading of one of the owners, within its limits.
+    fn reading(&self, month: u16, owner: u8, load: u32, peak: u32) -> Result<Reading, BookFault>
+        ensures { told metered_of result ≡ verdict (metered_as month owner load peak) (reading_limits (length (areas_of self.now)) (metered_as month owner load peak)) }
     {
-        if usize::from(owner) >= self.count {
+        if usize::from(owner) >= self.areas.count() {
             return Err(BookFault::UnknownOwner);
         }
         if month > 359 {
@@ -98,21 +96,16 @@ impl<C: Charge> Book<C> {
         if load > 100_000_000 || peak > 100_000 {
             return Err(BookFault::Figure);
         }
-        if is_full(journal) {
-            return Err(BookFault::JournalFull);
-        }
-        let number = journal.len();
-        let reading = Reading {
+        Ok(Reading {
             month,
             owner,
             load,
             peak,
-        };
-        journal.push_reserved(Entry::Reading(reading));
-        Ok(number)
+        })
     }
 
     // Enters an owner's filing from a first to a last month, and answers the entry's number.
+    // As it is: a public signature with its tests; the figures stand in the order of the office's script.
     pub fn file(
         &self,
         journal: &mut Vec<Entry>,
@@ -124,14 +117,16 @@ impl<C: Charge> Book<C> {
         load: u32,
         peak: u32,
     ) -> Result<usize, BookFault>
-        ensures answer { told (λ i. i) result ≡ verdict (vec_len journal.old) (filing_checks (length (areas_of self.now)) (vec_len journal.old) (vec_capacity journal.old) (filed_as owner first last ehv nhv load peak)) }
+        ensures answer { told (λ i. i) result ≡ filing_in self.now journal.old (filed_as owner first last ehv nhv load peak) }
         ensures journal { Enters (filed (filed_as owner first last ehv nhv load peak)) result journal.old journal.new }
-        ensures law { (t : Terms) (h : List Event) (rows : List Row) (free : ℕ) → Account (C.meaning self.now.charge) t h self.now journal.old rows free → Account (C.meaning self.now.charge) t (h ++ event_of (files (filed_as owner first last ehv nhv load peak)) (told entered result) ∷ []) self.now journal.new rows free }
+        ensures law { Follows (C.meaning self.now.charge) (event_of (files (filed_as owner first last ehv nhv load peak)) (told entered result)) self.now journal.old journal.new }
     {
-        self.enter_filing(journal, owner, first, last, ehv, nhv, load, peak)
+        let filing = self.filing(owner, first, last, ehv, nhv, load, peak)?;
+        enter(journal, Entry::Filing(filing))
     }
 
     // Enters an owner's reading of a month, and answers the entry's number.
+    // As it is: the figures one by one, as in `file`.
     pub fn read(
         &self,
         journal: &mut Vec<Entry>,
@@ -140,10 +135,11 @@ impl<C: Charge> Book<C> {
         load: u32,
         peak: u32,
     ) -> Result<usize, BookFault>
-        ensures answer { told (λ i. i) result ≡ verdict (vec_len journal.old) (reading_checks (length (areas_of self.now)) (vec_len journal.old) (vec_capacity journal.old) (metered_as month owner load peak)) }
+        ensures answer { told (λ i. i) result ≡ reading_in self.now journal.old (metered_as month owner load peak) }
         ensures journal { Enters (metered (metered_as month owner load peak)) result journal.old journal.new }
-        ensures law { (t : Terms) (h : List Event) (rows : List Row) (free : ℕ) → Account (C.meaning self.now.charge) t h self.now journal.old rows free → Account (C.meaning self.now.charge) t (h ++ event_of (reads (metered_as month owner load peak)) (told entered result) ∷ []) self.now journal.new rows free }
+        ensures law { Follows (C.meaning self.now.charge) (event_of (reads (metered_as month owner load peak)) (told entered result)) self.now journal.old journal.new }
     {
-        self.enter_reading(journal, month, owner, load, peak)
+        let reading = self.reading(month, owner, load, peak)?;
+        enter(journal, Entry::Reading(reading))
     }
 }

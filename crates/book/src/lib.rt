@@ -9,7 +9,6 @@ mod entering;
 mod entry;
 mod fault;
 mod filing;
-mod nets;
 mod netting;
 mod open;
 mod opening;

@@ -2,6 +2,7 @@
 ghost use Rattle.std.specs.Prelude.{◌≡◌, ◌≤◌, true};
 
 // An opening is owed a posting or a withdrawal: it may be let go only once one of them has spent it.
+// As it is: a rule of the project: the token keeps `spent`, which its Drop requires.
 pub struct Opening {
     pub(crate) month: u16,
     pub(crate) count: u16,

@@ -5,6 +5,7 @@ ghost use Rattle.book.specs.declared.fault.BookFault.TheVariants.{Charge};
 use crate::fault::BookFault;
 use charges::ChargeFault;
 
+// As it is: `?` asks for it, and no derive writes a From.
 impl From<ChargeFault> for BookFault {
     ghost from_gives = { λ f r. r ≡ Charge f };
 

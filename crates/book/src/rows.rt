@@ -1,57 +1,52 @@
 // The month's table from the filings and readings in force.
-ghost use Rattle.std.specs.Prelude.{◌≡◌, ℕ, ◌<◌, ◌≤◌, true, false, List, length, take, MatchResult, slice_index, slice_index_or};
+ghost use Rattle.std.specs.Prelude.{◌≡◌, ℕ, ◌<◌, ◌≤◌, true, false, List, length, MatchResult, slice_index, slice_index_or};
 ghost use Rattle.std.specs.Option.{option_map};
 ghost use Rattle.charges.specs.Checks.{first_fault, each_from};
+ghost use Rattle.charges.specs.Owners.{items_of};
 ghost use Rattle.charges.specs.Rows.{RowWithin, nobody};
 ghost use Rattle.charges.specs.Tables.{rows_of};
+ghost use Rattle.book.specs.Answers.{fault_of, told};
 ghost use Rattle.book.specs.Entries.{Noted};
 ghost use Rattle.book.specs.Faults.{refusal};
 ghost use Rattle.book.specs.Forces.{InForce};
 ghost use Rattle.book.specs.Meaning.{filed_of, metered_of};
 ghost use Rattle.book.specs.Workings.{filing_check, reading_check, row_for, rows_from, totals_check, plain};
 
-use crate::entry::{Filing, Reading};
 use crate::fault::BookFault;
 use crate::standings::Standing;
-use charges::{OwnerRow, Table};
+use charges::{OwnerRow, Owners, Table};
 
-// The first owner without a filing in force.
-pub(crate) fn first_unfiled(areas: &[u8], standing: &Standing) -> Option<BookFault>
-    requires { length areas.now ≤ 16 }
-    ensures { (month : ℕ) (entries : List Noted) → InForce standing.now month entries → option_map refusal result ≡ first_fault (each_from (filing_check month entries) 0 areas.now) }
+// Turns the month away where an owner has no filing in force, by the first such owner.
+pub(crate) fn all_filed(standings: &[Standing]) -> Result<(), BookFault>
+    requires { length standings.now ≤ 16 }
+    ensures { (month : ℕ) (entries : List Noted) (areas : List ℕ) → InForce standings.now month entries → length areas ≡ length standings.now → fault_of (told (λ x. x) result) ≡ first_fault (each_from (filing_check month entries) 0 areas) }
 {
-    for i in 0..areas.len() {
-        if standing.filings[i].is_none() {
-            return Some(BookFault::NoFiling { owner: i as u8 });
-        }
+    match standings.iter().position(|s| s.filing.is_none()) {
+        Some(owner) => Err(BookFault::NoFiling { owner: owner as u8 }),
+        None => Ok(()),
     }
-    None
 }
 
-// The first owner without a reading in force.
-pub(crate) fn first_unread(areas: &[u8], standing: &Standing) -> Option<BookFault>
-    requires { length areas.now ≤ 16 }
-    ensures { (month : ℕ) (entries : List Noted) → InForce standing.now month entries → option_map refusal result ≡ first_fault (each_from (reading_check month entries) 0 areas.now) }
+// The same of the readings.
+pub(crate) fn all_read(standings: &[Standing]) -> Result<(), BookFault>
+    requires { length standings.now ≤ 16 }
+    ensures { (month : ℕ) (entries : List Noted) (areas : List ℕ) → InForce standings.now month entries → length areas ≡ length standings.now → fault_of (told (λ x. x) result) ≡ first_fault (each_from (reading_check month entries) 0 areas) }
 {
-    for i in 0..areas.len() {
-        if standing.readings[i].is_none() {
-            return Some(BookFault::NoReading { owner: i as u8 });
-        }
+    match standings.iter().position(|s| s.reading.is_none()) {
+        Some(owner) => Err(BookFault::NoReading { owner: owner as u8 }),
+        None => Ok(()),
     }
-    None
 }
 
 // An owner's row, once both are in force.
-fn row_for(area: u8, filing: Option<Filing>, reading: Option<Reading>) -> OwnerRow
-    requires { area ≤ 2 }
-    ensures value { result ≡ row_for area (option_map filed_of filing) (option_map metered_of reading) }
+fn row_for(owner: &(u8, Standing)) -> OwnerRow
+    requires { owner.now.0 ≤ 2 }
+    ensures value { result ≡ row_for owner.now.0 (option_map filed_of owner.now.1.filing) (option_map metered_of owner.now.1.reading) }
     ensures within { RowWithin result }
 {
-    let Some(f) = filing else {
-        return NOBODY;
-    };
-    let Some(r) = reading else {
-        return NOBODY;
+    let (area, standing) = *owner;
+    let (Some(f), Some(r)) = (standing.filing, standing.reading) else {
+        return OwnerRow::default();
     };
     OwnerRow {
         area,
@@ -64,28 +59,16 @@ fn row_for(area: u8, filing: Option<Filing>, reading: Option<Reading>) -> OwnerR
     }
 }
 
-const NOBODY: OwnerRow = OwnerRow {
-    area: 0,
-    ehv: 0,
-    nhv: 0,
-    filed_load: 0,
-    filed_peak: 0,
-    load: 0,
-    peak: 0,
-};
-
 // The rows of all owners.
-pub(crate) fn all_rows(areas: &[u8], standing: &Standing) -> [OwnerRow; 16]
-    requires few { length areas.now ≤ 16 }
-    requires areas { (k : ℕ) → slice_index areas.now k ≤ 2 }
-    ensures value { (month : ℕ) (entries : List Noted) → InForce standing.now month entries → take (length areas.now) result ≡ rows_from month entries 0 areas.now }
-    ensures within { (k : ℕ) → RowWithin (slice_index_or result k nobody) }
+pub(crate) fn all_rows(areas: &Owners<u8>, standings: &[Standing]) -> Owners<OwnerRow>
+    requires few { length standings.now ≤ 16 }
+    requires many { length standings.now ≡ length (items_of areas.now) }
+    requires areas { (k : ℕ) → slice_index (items_of areas.now) k ≤ 2 }
+    ensures value { (month : ℕ) (entries : List Noted) → InForce standings.now month entries → items_of result ≡ rows_from month entries 0 (items_of areas.now) }
+    ensures within { (k : ℕ) → RowWithin (slice_index_or (items_of result) k nobody) }
 {
-    let mut rows = [NOBODY; 16];
-    for i in 0..areas.len() {
-        rows[i] = row_for(areas[i], standing.filings[i], standing.readings[i]);
-    }
-    rows
+    let standings = Owners::new(standings).unwrap();
+    areas.zip(&standings).map(row_for)
 }
 
 // A table of the rows, unless their totals are over the limits.
@@ -95,8 +78,5 @@ pub(crate) fn table_of(rows: &[OwnerRow]) -> Result<Table, BookFault>
     requires within { (k : ℕ) → RowWithin (slice_index_or rows.now k nobody) }
     ensures { MatchResult result (λ t. ((totals_check rows.now).fails ≡ false) × (rows_of t ≡ rows.now)) (λ e. ((totals_check rows.now).fails ≡ true) × (refusal e ≡ plain 11)) }
 {
-    match Table::new(rows) {
-        Ok(table) => Ok(table),
-        Err(_) => Err(BookFault::Totals),
-    }
+    Table::new(rows).map_err(|_| BookFault::Totals)
 }

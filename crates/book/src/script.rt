@@ -1,45 +1,23 @@
 // A script of calls, performed by a new book.
-ghost use Rattle.std.specs.Prelude.{◌≡◌, ℕ, List, [], ◌∷◌, ◌++◌, ◌<◌, length, drop, vec_capacity, MatchOption, OnErr, OnOk};
+ghost use Rattle.std.specs.Prelude.{◌≡◌, List, [], ◌++◌, ◌<◌, length, drop, vec_capacity, MatchOption, OnErr, OnOk};
 ghost use Rattle.charges.specs.Checks.{first_fault};
 ghost use Rattle.rolls.specs.Rows.{Row};
-ghost use Rattle.book.specs.Accounts.{Account};
+ghost use Rattle.book.specs.Accounts.{Account, Follows, FollowsOnRoll};
 ghost use Rattle.book.specs.Answers.{fault_of, told};
 ghost use Rattle.book.specs.Checks.{set_up_checks};
-ghost use Rattle.book.specs.Histories.{Event, Terms, drew, entered, event_of, opens, posted, posts, stands};
-ghost use Rattle.book.specs.Postings.{lines_of, posting_in};
+ghost use Rattle.book.specs.Histories.{Terms, event_of, opens, posted, posts};
+ghost use Rattle.book.specs.Postings.{lines_in};
 ghost use Rattle.book.specs.Runs.{AnswersAreTheChecks, BurdensStayWithinCaps, EachPostingAddsOneLineAnOwner, JournalHoldsTheEntries, LinesAddUpToTheNet, PartsCoverTheRequirements, PostingsCancel, run_of};
 ghost use Rattle.book.specs.Scripts.{empty_draft, grant_of, history_of, request_of};
-ghost use Rattle.book.specs.States.{state_as};
 
 use crate::book::Book;
-use crate::call::{Call, Reply, State};
+use crate::call::{Call, Reply};
 use crate::entry::Entry;
 use crate::fault::BookFault;
 use crate::opening::Opening;
 use crate::written::Written;
 use charges::Charge;
 use rolls::Roll;
-
-fn entered(answer: Result<usize, BookFault>) -> Result<Reply, BookFault>
-    ensures { told grant_of result ≡ told entered answer }
-{
-    let number = answer?;
-    Ok(Reply::Entered { number })
-}
-
-fn posted(answer: Result<(), BookFault>) -> Result<Reply, BookFault>
-    ensures { told grant_of result ≡ told (λ _. posted) answer }
-{
-    answer?;
-    Ok(Reply::Posted)
-}
-
-fn told(answer: Result<State, BookFault>) -> Result<Reply, BookFault>
-    ensures { told grant_of result ≡ told (λ s. stands (state_as s)) answer }
-{
-    let state = answer?;
-    Ok(Reply::Stands(state))
-}
 
 impl Written {
     // The opening that was written down; there is none at more entries than a journal takes.
@@ -67,7 +45,7 @@ impl Written {
 impl<C: Charge> Book<C> {
     // Opens a month, and writes the opening down by its month and count.
     fn open_written(&self, journal: &Vec<Entry>, month: u16) -> Result<Reply, BookFault>
-        ensures { (t : Terms) (h : List Event) (rows : List Row) (free : ℕ) → Account (C.meaning self.now.charge) t h self.now journal.now rows free → Account (C.meaning self.now.charge) t (h ++ event_of (opens month empty_draft) (told grant_of result) ∷ []) self.now journal.now rows free }
+        ensures { Follows (C.meaning self.now.charge) (event_of (opens month empty_draft) (told grant_of result)) self.now journal.now journal.now }
     {
         let mut draft = [0; 16];
         let opening = self.open(journal, month, &mut draft)?;
@@ -88,8 +66,8 @@ impl<C: Charge> Book<C> {
         roll: &mut R,
         written: Written,
     ) -> Result<(), BookFault>
-        ensures lines { R.lines roll.new ≡ R.lines roll.old ++ lines_of written.month written.count (posting_in (C.meaning self.old.charge) self.old journal.now written.month written.count (R.spare roll.old)) }
-        ensures law { (t : Terms) (h : List Event) (earlier before after : List Row) → R.lines roll.old ≡ earlier ++ before → R.lines roll.new ≡ earlier ++ after → Account (C.meaning self.old.charge) t h self.old journal.now before (R.spare roll.old) → Account (C.meaning self.new.charge) t (h ++ event_of (posts written.month written.count) (told (λ _. posted) result) ∷ []) self.new journal.now after (R.spare roll.new) }
+        ensures lines { R.lines roll.new ≡ R.lines roll.old ++ lines_in (C.meaning self.old.charge) self.old journal.now written.month written.count (R.spare roll.old) }
+        ensures law { FollowsOnRoll (event_of (posts written.month written.count) (told (λ _. posted) result)) (C.meaning self.old.charge) self.old journal.now (R.lines roll.old) (R.spare roll.old) (C.meaning self.new.charge) self.new journal.now (R.lines roll.new) (R.spare roll.new) }
     {
         let Some(opening) = written.opening() else {
             return Err(BookFault::BeyondJournal);
@@ -105,7 +83,7 @@ impl<C: Charge> Book<C> {
         call: &Call,
     ) -> Result<Reply, BookFault>
         ensures kept { (earlier before : List Row) → R.lines roll.old ≡ earlier ++ before → R.lines roll.new ≡ earlier ++ drop (length earlier) (R.lines roll.new) }
-        ensures law { (t : Terms) (h : List Event) (earlier before after : List Row) → R.lines roll.old ≡ earlier ++ before → R.lines roll.new ≡ earlier ++ after → Account (C.meaning self.old.charge) t h self.old journal.old before (R.spare roll.old) → Account (C.meaning self.new.charge) t (h ++ event_of (request_of call.now) (told grant_of result) ∷ []) self.new journal.new after (R.spare roll.new) }
+        ensures law { FollowsOnRoll (event_of (request_of call.now) (told grant_of result)) (C.meaning self.old.charge) self.old journal.old (R.lines roll.old) (R.spare roll.old) (C.meaning self.new.charge) self.new journal.new (R.lines roll.new) (R.spare roll.new) }
     {
         match *call {
             Call::File {
@@ -116,20 +94,26 @@ impl<C: Charge> Book<C> {
                 nhv,
                 load,
                 peak,
-            } => entered(self.file(journal, owner, first, last, ehv, nhv, load, peak)),
+            } => self
+                .file(journal, owner, first, last, ehv, nhv, load, peak)
+                .map(|number| Reply::Entered { number }),
             Call::Read {
                 month,
                 owner,
                 load,
                 peak,
-            } => entered(self.read(journal, month, owner, load, peak)),
+            } => self
+                .read(journal, month, owner, load, peak)
+                .map(|number| Reply::Entered { number }),
             Call::Open { month } => self.open_written(journal, month),
-            Call::Post(written) => posted(self.post_written(journal, roll, written)),
+            Call::Post(written) => self
+                .post_written(journal, roll, written)
+                .map(|()| Reply::Posted),
             Call::Withdraw(written) => {
                 written.withdraw();
                 Ok(Reply::Withdrawn)
             }
-            Call::State { month } => told(self.state(journal, month)),
+            Call::State { month } => self.state(journal, month).map(Reply::Stands),
         }
     }
 
@@ -146,13 +130,15 @@ impl<C: Charge> Book<C> {
         ensures rest { drop (length calls.now) answers.new ≡ drop (length calls.now) answers.old }
         ensures law { (t : Terms) → Account (C.meaning self.old.charge) t [] self.old journal.old [] (R.spare roll.old) → Account (C.meaning self.new.charge) t (history_of calls.now answers.new) self.new journal.new (drop (length (R.lines roll.old)) (R.lines roll.new)) (R.spare roll.new) }
     {
-        for i in 0..calls.len().min(answers.len()) {
-            answers[i] = self.perform(journal, roll, &calls[i]);
+        let count = calls.len().min(answers.len());
+        for (i, call) in calls[0..count].iter().enumerate() {
+            answers[i] = self.perform(journal, roll, call);
         }
     }
 }
 
 // Performs a script by a new book: the journal is emptied first, the roll's lines are added behind those it has.
+// As it is: each clause writes its run out, since a clause names no value for the clauses after it.
 pub fn replay<C: Charge + Drop, R: Roll>(
     areas: &[u8],
     charge: C,

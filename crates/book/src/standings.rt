@@ -1,8 +1,8 @@
-// The filing and the reading in force, by owner.
+// What is in force of one owner for a month.
 use crate::entry::{Filing, Reading};
 
-#[derive(Drop)]
+#[derive(Clone, Copy, Default)]
 pub(crate) struct Standing {
-    pub(crate) filings: [Option<Filing>; 16],
-    pub(crate) readings: [Option<Reading>; 16],
+    pub(crate) filing: Option<Filing>,
+    pub(crate) reading: Option<Reading>,
 }

@@ -131,18 +131,13 @@ fn owners_refused(rt: HostRuntime) -> Result<(), Fail> {
     Ok(())
 }
 
-// Two owners in one area, all carried grid-wide, with filings and readings of month 0.
-fn opened_with(
-    rt: HostRuntime,
-    ehv: [i64; 2],
-    filed_loads: [u32; 2],
-    loads: [u32; 2],
-) -> Result<Option<BookFault>, Fail> {
+// Two owners in one area, all carried grid-wide: of each the requirement, the filed load and the load of month 0.
+fn opened_with(rt: HostRuntime, owners: [(i64, u32, u32); 2]) -> Result<Option<BookFault>, Fail> {
     let book = Book::new(&[0, 0], Volumetric::new(10)?)?;
     let mut journal = Vec::with_capacity(rt.alloc(), 4)?;
-    for i in 0..2 {
-        book.file(&mut journal, i as u8, 0, 0, ehv[i], 0, filed_loads[i], 0)?;
-        book.read(&mut journal, 0, i as u8, loads[i], 0)?;
+    for (i, (ehv, filed_load, load)) in owners.iter().enumerate() {
+        book.file(&mut journal, i as u8, 0, 0, *ehv, 0, *filed_load, 0)?;
+        book.read(&mut journal, 0, i as u8, *load, 0)?;
     }
     let mut draft = [0; 2];
     Ok(refusal(book.open(&journal, 0, &mut draft)))
@@ -150,14 +145,14 @@ fn opened_with(
 
 #[test]
 fn totals_over_the_limits(rt: HostRuntime) -> Result<(), Fail> {
-    let answer = opened_with(rt, [2_000_000_000, 1], [1, 1], [0, 0])?;
+    let answer = opened_with(rt, [(2_000_000_000, 1, 0), (1, 1, 0)])?;
     assert_eq!(rt; answer, Some(BookFault::Totals));
     Ok(())
 }
 
 #[test]
 fn charge_refuses(rt: HostRuntime) -> Result<(), Fail> {
-    let answer = opened_with(rt, [1000, 0], [0, 0], [1, 1])?;
+    let answer = opened_with(rt, [(1000, 0, 1), (0, 0, 1)])?;
     let fault = ChargeFault {
         number: 12,
         place: 3,
@@ -170,21 +165,21 @@ fn charge_refuses(rt: HostRuntime) -> Result<(), Fail> {
 #[test]
 fn utility_rate_over_its_limit(rt: HostRuntime) -> Result<(), Fail> {
     // 1,001 dollars a MWh for the second owner alone; together less than a cent.
-    let answer = opened_with(rt, [0, 1001], [100_000_000, 1], [1, 1])?;
+    let answer = opened_with(rt, [(0, 100_000_000, 1), (1001, 1, 1)])?;
     assert_eq!(rt; answer, Some(BookFault::UtilityRate { owner: 1 }));
     Ok(())
 }
 
 #[test]
 fn utility_rate_at_its_limit(rt: HostRuntime) -> Result<(), Fail> {
-    assert_eq!(rt; opened_with(rt, [0, 1000], [100_000_000, 1], [1, 1])?, None);
+    assert_eq!(rt; opened_with(rt, [(0, 100_000_000, 1), (1000, 1, 1)])?, None);
     Ok(())
 }
 
 #[test]
 fn adjustment_without_weight(rt: HostRuntime) -> Result<(), Fail> {
     // Bills of -500 cents, utility amounts of -1,000, and nobody who requires anything.
-    let answer = opened_with(rt, [-100, 0], [100, 100], [10, 0])?;
+    let answer = opened_with(rt, [(-100, 100, 10), (0, 100, 0)])?;
     assert_eq!(rt; answer, Some(BookFault::NoWeight));
     Ok(())
 }

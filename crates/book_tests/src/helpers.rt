@@ -29,13 +29,7 @@ pub fn require(book: &Book<Volumetric>, journal: &mut Vec<Entry>, ehv: i64) -> R
 
 // Why a month was not opened.
 pub fn refusal(answer: Result<Opening, BookFault>) -> Option<BookFault> {
-    match answer {
-        Ok(opening) => {
-            opening.withdraw();
-            None
-        }
-        Err(fault) => Some(fault),
-    }
+    answer.map(|opening| opening.withdraw()).err()
 }
 
 // Opens a month and posts it.
@@ -52,10 +46,7 @@ pub fn settle<R: Roll>(
 
 // A line that stands for a free one.
 pub fn blank() -> Result<Line, Fail> {
-    match Line::new(0, 0, 1, 0) {
-        Some(line) => Ok(line),
-        None => Err(Fail::new("outside the limits")),
-    }
+    Line::new(0, 0, 1, 0).ok_or_else(|| Fail::new("outside the limits"))
 }
 
 // That the lines from a place on are of month 14 at this mark, one for each owner with these cents.
@@ -66,16 +57,14 @@ pub fn check_lines<R: Roll>(
     mark: u16,
     cents: [i64; 3],
 ) -> Result<(), Fail> {
-    for i in 0..3 {
-        match roll.line(place.saturating_add(i)) {
-            Some(line) => {
-                assert_eq!(rt; line.month(), 14);
-                assert_eq!(rt; usize::from(line.owner()), i);
-                assert_eq!(rt; line.mark(), mark);
-                assert_eq!(rt; line.cents(), cents[i]);
-            }
-            None => return Err(Fail::new("no line")),
-        }
+    for (i, cents) in cents.iter().enumerate() {
+        let line = roll
+            .line(place.saturating_add(i))
+            .ok_or_else(|| Fail::new("no line"))?;
+        assert_eq!(rt; line.month(), 14);
+        assert_eq!(rt; usize::from(line.owner()), i);
+        assert_eq!(rt; line.mark(), mark);
+        assert_eq!(rt; line.cents(), *cents);
     }
     Ok(())
 }

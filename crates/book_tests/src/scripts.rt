@@ -27,10 +27,7 @@ fn read(owner: u8, load: u32, peak: u32) -> Call {
 }
 
 fn written(month: u16, count: u16) -> Result<Written, Fail> {
-    match Written::new(month, count) {
-        Some(written) => Ok(written),
-        None => Err(Fail::new("no opening of that month")),
-    }
+    Written::new(month, count).ok_or_else(|| Fail::new("no opening of that month"))
 }
 
 #[test]
@@ -64,69 +61,28 @@ fn worked_month(rt: HostRuntime) -> Result<(), Fail> {
         &calls,
         &mut answers,
     )?;
-    assert!(rt; all_as_wanted(&answers));
+    let mut draft = [0; 16];
+    draft[..3].copy_from_slice(&[278, -1793, 1515]);
+    let opened = Reply::Opened {
+        month: 14,
+        count: 6,
+        draft,
+    };
+    let due = Reply::Stands(State::Due { mark: 6 });
+    let current = Reply::Stands(State::Current { mark: 7 });
+    assert_eq!(rt; answers[5], Ok(Reply::Entered { number: 5 }));
+    assert_eq!(rt; answers[6], Ok(opened));
+    assert_eq!(rt; answers[7], Ok(Reply::Posted));
+    assert_eq!(rt; answers[8], Ok(Reply::Entered { number: 6 }));
+    assert_eq!(rt; answers[9], Ok(due));
+    assert_eq!(rt; answers[10], Err(BookFault::BeyondJournal));
+    assert_eq!(rt; answers[12], Ok(Reply::Posted));
+    assert_eq!(rt; answers[13], Ok(current));
+    assert_eq!(rt; answers[14], Err(BookFault::Current));
     check_lines(&rt, &roll, 0, 6, [278, -1793, 1515])?;
     check_lines(&rt, &roll, 3, 7, [-784, 1471, -687])?;
     assert_eq!(rt; journal.len(), 7);
     Ok(())
-}
-
-// The answers of the worked month, by hand.
-fn all_as_wanted(answers: &[Result<Reply, BookFault>; 16]) -> bool {
-    let billed = matches_entry(answers[5], 5)
-        && matches_draft(answers[6], 6, [278, -1793, 1515])
-        && matches_posted(answers[7]);
-    let due = matches_entry(answers[8], 6)
-        && matches_state(answers[9], State::Due { mark: 6 })
-        && matches_fault(answers[10], BookFault::BeyondJournal);
-    let corrected = matches_posted(answers[12])
-        && matches_state(answers[13], State::Current { mark: 7 })
-        && matches_fault(answers[14], BookFault::Current);
-    billed && due && corrected
-}
-
-fn matches_entry(answer: Result<Reply, BookFault>, wanted: usize) -> bool {
-    match answer {
-        Ok(Reply::Entered { number }) => number == wanted,
-        _ => false,
-    }
-}
-
-fn matches_draft(answer: Result<Reply, BookFault>, wanted: u16, nets: [i64; 3]) -> bool {
-    match answer {
-        Ok(
-            Reply::Opened {
-                month,
-                count,
-                draft,
-            },
-        ) => {
-            let begins = draft[0] == nets[0] && draft[1] == nets[1] && draft[2] == nets[2];
-            month == 14 && count == wanted && begins && draft[3] == 0
-        }
-        _ => false,
-    }
-}
-
-fn matches_posted(answer: Result<Reply, BookFault>) -> bool {
-    match answer {
-        Ok(Reply::Posted) => true,
-        _ => false,
-    }
-}
-
-fn matches_state(answer: Result<Reply, BookFault>, wanted: State) -> bool {
-    match answer {
-        Ok(Reply::Stands(state)) => state == wanted,
-        _ => false,
-    }
-}
-
-fn matches_fault(answer: Result<Reply, BookFault>, wanted: BookFault) -> bool {
-    match answer {
-        Ok(_) => false,
-        Err(fault) => fault == wanted,
-    }
 }
 
 #[test]

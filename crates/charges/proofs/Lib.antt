@@ -1,4 +1,6 @@
-pub mod Writing
+pub mod Given
+pub mod Firsts
+pub mod Sizes
 pub mod Settling
 pub mod Promised
 pub mod Alone
@@ -7,8 +9,8 @@ pub mod Eased
 pub mod Limited
 pub mod Remainder
 pub mod Limits
-pub mod Fronts
-pub mod Loops
+pub mod Sums
 pub mod Reckoning
 pub mod Settled
 pub mod Portions
+pub mod Pooled

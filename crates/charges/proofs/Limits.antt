@@ -1,28 +1,45 @@
 -- The rows of every table keep the limits.
-use Rattle.std.proofs.Common.{◌≡◌, ℕ, ◌<◌, ◌≤◌, false, ltb, List, length, get_or, take, nat_abs, sym, ap, ◌∙◌, arith}
+use Rattle.std.proofs.Common.{◌≡◌, ℕ, ◌<◌, ◌≤◌, false, ltb, List, length, get_or, pos, ◌==◌, nat_abs, sym, ap, ◌∙◌, arith}
 use Rattle.std.proofs.ByRecursion.{All-get_or, All-from_get_or}
 use Rattle.std.proofs.lemmas.List.{length-take-le, get_or-take}
-use Rattle.std.proofs.lemmas.Bool.{ltb-false, or_parts}
-use Rattle.charges.specs.Rows.{Good, RowWithin, RequiredWithin, UsedWithin, nobody}
+use Rattle.std.proofs.lemmas.Bool.{ltb-false, or_parts, cond_both}
+use Rattle.charges.specs.Rows.{Good, RowWithin, RequiredWithin, UsedWithin, nobody, all_ehv, all_nhv, area_ehv, ehv_in}
+use Rattle.charges.specs.Owners.{items_of}
 use Rattle.charges.specs.Tables.{rows_of, outside_areas, outside_figure, outside_figures, outside_requirement, outside_use}
+use Rattle.charges.specs.declared.owners.Owners.{Owners}
 use Rattle.charges.specs.declared.table.OwnerRow.{OwnerRow}
 use Rattle.charges.specs.declared.table.Table.{Table}
 use Rattle.charges.specs.Scans.{each-lacks}
+use Rattle.charges.proofs.Sums.{sum-size}
 
 -- what a table's rows keep
 pub table-good : (t : Table) → Good (rows_of t)
 table-good t =
-    let long = length-take-le t.count t.rows t.fits in
+    let long = length-take-le t.rows.count t.rows.items t.rows.fits in
     record {
       some = omega (arith, t.some);
-      few = omega (arith, t.few);
+      few = omega (arith, t.rows.few);
       within = All-from_get_or RowWithin (rows_of t) nobody (λ i h.
-          let lt : i < t.count = omega arith in
-          let same = get_or-take t.count t.rows i nobody lt in
+          let lt : i < t.rows.count = omega arith in
+          let same = get_or-take t.rows.count t.rows.items i nobody lt in
           rw same (record { required = t.required_within i lt; used = t.used_within i lt }));
       existing = t.existing;
       required = t.required;
     }
+
+-- what its owners require is small together
+module _ (t : Table) where
+  pub ehv-small : nat_abs (all_ehv (rows_of t)) ≤ 2000000000
+  ehv-small = omega (arith, sum-size (λ (r : OwnerRow). r.ehv) (λ r. nat_abs r.ehv) (λ r. omega arith) (rows_of t), (table-good t).existing)
+
+  pub nhv-small : nat_abs (all_nhv (rows_of t)) ≤ 3000000000
+  nhv-small = omega (arith, sum-size (λ (r : OwnerRow). r.nhv) (λ r. nat_abs r.nhv) (λ r. omega arith) (rows_of t), (table-good t).required)
+
+  pub area-small : (area : ℕ) → nat_abs (area_ehv area (rows_of t)) ≤ 2000000000
+  area-small area = omega (arith, sum-size (ehv_in area) (λ r. nat_abs r.ehv) one (rows_of t), (table-good t).existing)
+    where
+      one : (r : OwnerRow) → nat_abs (ehv_in area r) ≤ nat_abs r.ehv
+      one r = cond_both (r.area == area) r.ehv (pos 0) (λ z. nat_abs z ≤ nat_abs r.ehv) (λ _. omega arith) (λ _. omega arith)
 
 -- a row with no figure outside its limits
 module _ (r : OwnerRow) (e : outside_figure r ≡ false) where
@@ -57,5 +74,5 @@ module _ (rows : List OwnerRow) (figures : outside_figures rows ≡ false) (i : 
       (ltb-false 2 _ area, row-dollars.0, row-dollars.1)
 
 -- a row stands in the table where it stood
-pub kept_at : (rows kept : List OwnerRow) → take (length rows) kept ≡ rows → (i : ℕ) → i < length rows → get_or rows i nobody ≡ get_or kept i nobody
-kept_at rows kept same i h = sym (ap (λ xs. get_or xs i nobody) same) ∙ get_or-take (length rows) kept i nobody h
+pub kept_at : (rows : List OwnerRow) (o : Owners OwnerRow) → items_of o ≡ rows → (i : ℕ) → i < o.count → get_or rows i nobody ≡ get_or o.items i nobody
+kept_at rows o same i h = sym (ap (λ xs. get_or xs i nobody) same) ∙ get_or-take o.count o.items i nobody h

@@ -8,6 +8,3 @@ read z = to_z w64 (of_z w64 z)
 module _ (ehv a b c : ℤ) (small-ehv : nat_abs ehv ≤ 2000000000) (small-a : nat_abs a ≤ 2000000000) (small_b : nat_abs b ≤ 2000000000) (small-c : nat_abs c ≤ 2000000000) where
   pub rest-is : read (read ehv -ℤ read (read (read a +ℤ read b) +ℤ read c)) ≡ ehv -ℤ (a +ℤ b +ℤ c)
   rest-is = omega (arith, ints)
-
-  pub rest-small : nat_abs (ehv -ℤ (a +ℤ b +ℤ c)) ≤ 100000000000
-  rest-small = omega (arith, ints)

@@ -1,5 +1,6 @@
 -- Checks that are made in order: the first that fails says why something is refused.
-use Rattle.std.specs.Prelude.{ℕ, suc, Bool, false, cond, ◌||◌, List, [], ◌∷◌, ℤ, Some, None, Option, nat_lt, unsigned_abs}
+use Rattle.std.specs.Prelude.{ℕ, suc, Bool, cond, List, [], ◌∷◌, ℤ, Some, None, Option, nat_lt, unsigned_abs}
+use Rattle.std.specs.List.{list_any}
 
 -- whether a check fails, and the fault it then finds
 pub record Check (Fault : Type 0) : Type 0 where
@@ -16,8 +17,7 @@ passes limit z = nat_lt limit (unsigned_abs z)
 
 -- whether one of the elements has a property
 abbrev pub any_by : {X : Type 0} → (X → Bool) → List X → Bool
-any_by has [] = false
-any_by has (x ∷ xs) = has x || any_by has xs
+any_by has xs = list_any has xs
 
 -- the checks of elements whose first has the place k
 abbrev pub each_from : {X Fault : Type 0} → (ℕ → X → Check Fault) → ℕ → List X → List (Check Fault)

@@ -1,5 +1,4 @@
 pub mod Burdens
-pub mod Gauges
 pub mod Promises
 pub mod Transition
 pub mod WorkedLayers
@@ -7,6 +6,7 @@ pub mod Checks
 pub mod Rows
 pub mod Tables
 pub mod Outcomes
+pub mod Owners
 pub mod Amounts
 pub mod Meaning
 pub mod Pools

@@ -8,7 +8,7 @@ use Rattle.charges.specs.declared.table.OwnerRow.{OwnerRow}
 use Rattle.charges.specs.declared.table.Table.{Table}
 
 abbrev pub rows_of : Table → List OwnerRow
-rows_of t = take t.count t.rows
+rows_of t = take t.rows.count t.rows.items
 
 abbrev pub table_number : TableFault → ℕ
 table_number Owners = 1

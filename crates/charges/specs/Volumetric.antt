@@ -24,6 +24,15 @@ volumetric_pools tenths rows =
     ∷ pool_of (grid_pool tenths rows) GridLoad rows
     ∷ []
 
+-- the pools, were just so much required for new facilities
+abbrev pub pools_with : ℤ → ℕ → List OwnerRow → List Pool
+pools_with new tenths rows =
+    pool_of (area_pool tenths 0 rows) (AreaLoad 0) rows
+    ∷ pool_of (area_pool tenths 1 rows) (AreaLoad 1) rows
+    ∷ pool_of (area_pool tenths 2 rows) (AreaLoad 2) rows
+    ∷ pool_of (all_ehv rows -ℤ (area_pool tenths 0 rows +ℤ area_pool tenths 1 rows +ℤ area_pool tenths 2 rows) +ℤ new) GridLoad rows
+    ∷ []
+
 -- the charge is the same in every month
 abbrev pub volumetric : ℕ → ℕ → List OwnerRow → Outcome
 volumetric tenths month rows = charged (volumetric_pools tenths rows) rows

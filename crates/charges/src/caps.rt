@@ -7,6 +7,7 @@ use crate::volumetric::Volumetric;
 #[derive(Clone, Copy)]
 pub(crate) struct Caps {
     pub(crate) existing: Volumetric,
+    // As it is: a rule of the project: the caps stand for sixteen owner numbers, before a table says how many owners there are.
     pub(crate) items: [u32; 16],
     ghost long: { length items ≡ 16 },
     ghost within: { (k : ℕ) → slice_index items k ≤ 60000000 },

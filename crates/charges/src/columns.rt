@@ -3,15 +3,14 @@ ghost use Rattle.std.specs.Prelude.{◌≡◌};
 ghost use Rattle.division.specs.Shares.{shares};
 ghost use Rattle.charges.specs.Amounts.{amounts_of};
 ghost use Rattle.charges.specs.Burdens.{along, excess, headroom, payments, mitigations, adjusted};
-ghost use Rattle.charges.specs.Rows.{Good};
 ghost use Rattle.charges.specs.Tables.{rows_of};
 ghost use Rattle.charges.specs.Transition.{burdens, eased, final_burdens, transition_charges, transition_rates};
 
 use crate::amounts::Amounts;
 use crate::caps::Caps;
-use crate::gauge::Gauge;
-use crate::layer::{burdens_of, rates_of};
-use crate::table::{OwnerRow, Table};
+use crate::gauge::{above_cap, below_cap};
+use crate::layer::rates_of;
+use crate::table::Table;
 use crate::transition::Transition;
 
 // Dollars a year, and rates in hundredths of a cent for each MWh.
@@ -50,38 +49,37 @@ impl<C> Transition<C> {
         ensures charges { amounts_of result.charges ≡ transition_charges shares self.now.caps.existing.tenths self.now.caps.items (rows_of table.now) }
         ensures rates { amounts_of result.rates ≡ transition_rates self.now.caps.existing.tenths self.now.caps.items (rows_of table.now) }
     {
-        self.caps.columns(table.rows())
+        self.caps.columns(table)
     }
 }
 
 impl Caps {
-    pub(crate) fn columns(&self, rows: &[OwnerRow]) -> Columns
-        requires { Good rows.now }
-        ensures burdens { amounts_of result.burdens ≡ burdens shares self.now.existing.tenths rows.now }
-        ensures headroom { amounts_of result.headroom ≡ eased (along headroom) self.now.existing.tenths self.now.items rows.now }
-        ensures excess { amounts_of result.excess ≡ eased (along excess) self.now.existing.tenths self.now.items rows.now }
-        ensures payments { amounts_of result.payments ≡ eased (payments shares) self.now.existing.tenths self.now.items rows.now }
-        ensures mitigations { amounts_of result.mitigations ≡ eased (mitigations shares) self.now.existing.tenths self.now.items rows.now }
-        ensures adjusted { amounts_of result.adjusted ≡ eased (adjusted shares) self.now.existing.tenths self.now.items rows.now }
-        ensures finals { amounts_of result.finals ≡ final_burdens shares self.now.existing.tenths self.now.items rows.now }
-        ensures charges { amounts_of result.charges ≡ transition_charges shares self.now.existing.tenths self.now.items rows.now }
-        ensures rates { amounts_of result.rates ≡ transition_rates self.now.existing.tenths self.now.items rows.now }
+    pub(crate) fn columns(&self, table: &Table) -> Columns
+        ensures burdens { amounts_of result.burdens ≡ burdens shares self.now.existing.tenths (rows_of table.now) }
+        ensures headroom { amounts_of result.headroom ≡ eased (along headroom) self.now.existing.tenths self.now.items (rows_of table.now) }
+        ensures excess { amounts_of result.excess ≡ eased (along excess) self.now.existing.tenths self.now.items (rows_of table.now) }
+        ensures payments { amounts_of result.payments ≡ eased (payments shares) self.now.existing.tenths self.now.items (rows_of table.now) }
+        ensures mitigations { amounts_of result.mitigations ≡ eased (mitigations shares) self.now.existing.tenths self.now.items (rows_of table.now) }
+        ensures adjusted { amounts_of result.adjusted ≡ eased (adjusted shares) self.now.existing.tenths self.now.items (rows_of table.now) }
+        ensures finals { amounts_of result.finals ≡ final_burdens shares self.now.existing.tenths self.now.items (rows_of table.now) }
+        ensures charges { amounts_of result.charges ≡ transition_charges shares self.now.existing.tenths self.now.items (rows_of table.now) }
+        ensures rates { amounts_of result.rates ≡ transition_rates self.now.existing.tenths self.now.items (rows_of table.now) }
     {
-        let pools = self.existing.existing_pools(rows);
-        let burdens = burdens_of(&pools, rows);
-        let excess = self.read(Gauge::Excess, &burdens);
+        let burdens = self.burdens(table);
+        let owners = self.beside(&burdens.amounts);
+        let excess = owners.map(above_cap);
         let payments = self.payments(&burdens);
-        let charges = self.transitions(&burdens);
+        let charges = self.charges(table);
         Columns {
-            burdens,
-            headroom: self.read(Gauge::Headroom, &burdens),
+            burdens: burdens.amounts,
+            headroom: owners.map(below_cap),
             excess,
             payments,
             mitigations: payments.less(&excess),
             adjusted: self.adjusted(&burdens),
             finals: self.finals(&burdens),
             charges,
-            rates: rates_of(&charges, rows),
+            rates: rates_of(&charges, table),
         }
     }
 }

@@ -1,73 +1,67 @@
 // How caps ease the owners' burdens, column by column of the rate sheets.
-ghost use Rattle.std.specs.Prelude.{◌≡◌, take};
+ghost use Rattle.std.specs.Prelude.{◌≡◌, take, zip};
 ghost use Rattle.division.specs.Shares.{shares};
-ghost use Rattle.charges.specs.Amounts.{amounts_of, AllBelow};
-ghost use Rattle.charges.specs.Burdens.{along, payments, adjusted, finals, transitions};
-ghost use Rattle.charges.specs.Gauges.{gauge};
+ghost use Rattle.charges.specs.Amounts.{amounts_of};
+ghost use Rattle.charges.specs.Burdens.{payments, adjusted, finals, transitions};
+ghost use Rattle.charges.specs.Owners.{items_of};
 
 use crate::amounts::Amounts;
+use crate::burdens::Burdens;
 use crate::caps::Caps;
-use crate::gauge::Gauge;
+use crate::gauge::{above_cap, below_cap, below_nothing, of_capped, of_uncapped, weight};
+use crate::owners::Owners;
 
 impl Caps {
     // The transition charges, column [38]: the final burdens less the burdens.
-    pub(crate) fn transitions(&self, burdens: &Amounts) -> Amounts
-        requires { AllBelow 500000000000 (amounts_of burdens.now) }
-        ensures { amounts_of result ≡ transitions shares (take burdens.now.count self.now.items) (amounts_of burdens.now) }
+    pub(crate) fn transitions(&self, burdens: &Burdens) -> Amounts
+        ensures { amounts_of result ≡ transitions shares (take burdens.now.amounts.count self.now.items) (amounts_of burdens.now.amounts) }
     {
-        self.finals(burdens).less(burdens)
+        self.finals(burdens).less(&burdens.amounts)
     }
 
     // The final burdens, column [39]: what capped owners bear is divided again by cap, and an uncapped owner keeps its own.
-    pub(crate) fn finals(&self, burdens: &Amounts) -> Amounts
-        requires { AllBelow 500000000000 (amounts_of burdens.now) }
-        ensures { amounts_of result ≡ finals shares (take burdens.now.count self.now.items) (amounts_of burdens.now) }
+    pub(crate) fn finals(&self, burdens: &Burdens) -> Amounts
+        ensures { amounts_of result ≡ finals shares (take burdens.now.amounts.count self.now.items) (amounts_of burdens.now.amounts) }
     {
-        let adjusted = self.adjusted(burdens);
-        let capped = self.read(Gauge::Capped, &adjusted).total();
-        let caps = self.read(Gauge::Cap, &adjusted);
-        let own = self.read(Gauge::Uncapped, &adjusted);
-        caps.divided(capped).plus(&own)
+        let adjusted = self.beside(&self.adjusted(burdens));
+        let capped = adjusted.map(of_capped).total();
+        let shared = adjusted.map(weight).shares(capped as i64).unwrap();
+        shared.plus(&adjusted.map(of_uncapped))
     }
 
     // The adjusted burdens, column [36]: the mitigation, column [35], is the payment less the excess.
-    pub(crate) fn adjusted(&self, burdens: &Amounts) -> Amounts
-        requires { AllBelow 500000000000 (amounts_of burdens.now) }
-        ensures { amounts_of result ≡ adjusted shares (take burdens.now.count self.now.items) (amounts_of burdens.now) }
+    pub(crate) fn adjusted(&self, burdens: &Burdens) -> Amounts
+        ensures { amounts_of result ≡ adjusted shares (take burdens.now.amounts.count self.now.items) (amounts_of burdens.now.amounts) }
     {
-        let excess = self.read(Gauge::Excess, burdens);
+        let excess = self.beside(&burdens.amounts).map(above_cap);
         let mitigations = self.payments(burdens).less(&excess);
-        burdens.plus(&mitigations)
+        burdens.amounts.plus(&mitigations)
     }
 
     // The payments, column [34]: by headroom, or all of it and by benefit what it leaves.
-    pub(crate) fn payments(&self, burdens: &Amounts) -> Amounts
-        requires { AllBelow 500000000000 (amounts_of burdens.now) }
-        ensures { amounts_of result ≡ payments shares (take burdens.now.count self.now.items) (amounts_of burdens.now) }
+    pub(crate) fn payments(&self, burdens: &Burdens) -> Amounts
+        ensures { amounts_of result ≡ payments shares (take burdens.now.amounts.count self.now.items) (amounts_of burdens.now.amounts) }
     {
-        let excess = self.read(Gauge::Excess, burdens).total();
-        let headroom = self.read(Gauge::Headroom, burdens);
+        let owners = self.beside(&burdens.amounts);
+        let excess = owners.map(above_cap).total();
+        let headroom = owners.map(below_cap);
         let room = headroom.total();
         if room < excess {
-            let benefit = self.read(Gauge::Benefit, burdens);
-            headroom.plus(&benefit.divided(excess - room))
+            let benefit = owners.map(below_nothing);
+            headroom.plus(&benefit.divided((excess - room) as i64))
         } else {
-            headroom.divided(excess)
+            headroom.divided(excess as i64)
         }
     }
 
-    // What a gauge reads of each owner.
-    pub(crate) fn read(&self, which: Gauge, amounts: &Amounts) -> Amounts
-        requires { AllBelow 1000000000000000 (amounts_of amounts.now) }
-        ensures { amounts_of result ≡ along (gauge which) (take amounts.now.count self.now.items) (amounts_of amounts.now) }
+    // Each owner's cap beside an amount of its own.
+    pub(crate) fn beside(&self, amounts: &Amounts) -> Owners<(u32, i64)>
+        ensures { items_of result ≡ zip (take amounts.now.count self.now.items) (amounts_of amounts.now) }
     {
-        let mut items = [0; 16];
-        for i in 0..amounts.count {
-            items[i] = which.of(self.items[i], amounts.items[i]);
-        }
-        Amounts {
-            items,
-            count: amounts.count,
-        }
+        let caps = Owners {
+            items: self.items,
+            count: amounts.count(),
+        };
+        caps.zip(amounts)
     }
 }

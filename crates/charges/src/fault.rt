@@ -1,4 +1,9 @@
 // Why something is refused.
+ghost use Rattle.std.specs.Prelude.{◌≡◌, ◌<◌, IfSome};
+ghost use Rattle.std.specs.Option.{option_map};
+ghost use Rattle.charges.specs.Charging.{fault_at};
+ghost use Rattle.charges.specs.Meaning.{fault_in};
+ghost use Rattle.charges.specs.Settings.{reason_number};
 
 // Why rows make no table.
 #[derive(Clone, Copy, PartialEq, Eq, Debug)]
@@ -19,9 +24,45 @@ pub enum SettingFault {
 }
 
 // Why a month is not billed: the number of the reason, where it arose, and at which level of charges.
+// As it is: a rule of the project: a refusal goes by its number, its place and its level, on every page and in every script.
 #[derive(Clone, Copy, PartialEq, Eq, Debug)]
 pub struct ChargeFault {
     pub number: u8,
     pub place: u8,
     pub level: u8,
+}
+
+// What a month is refused for: a pool without filed use, an owner's rate, or an owner's amount.
+#[derive(Clone, Copy, PartialEq, Eq, Debug)]
+pub(crate) enum Reason {
+    Unfiled,
+    HighRate,
+    LargeAmount,
+}
+
+impl Reason {
+    fn number(self) -> u8
+        ensures { result ≡ reason_number self }
+    {
+        match self {
+            Reason::Unfiled => 12,
+            Reason::HighRate => 13,
+            Reason::LargeAmount => 14,
+        }
+    }
+
+    // Refuses a month for what stands at a place, if there is such a place.
+    pub(crate) fn refuses(self, place: Option<usize>) -> Result<(), ChargeFault>
+        requires { IfSome place (λ k. k < 256) }
+        ensures { fault_in result ≡ option_map (fault_at (reason_number self)) place }
+    {
+        match place {
+            Some(place) => Err(ChargeFault {
+                number: self.number(),
+                place: place as u8,
+                level: 0,
+            }),
+            None => Ok(()),
+        }
+    }
 }

@@ -5,7 +5,6 @@ ghost use Rattle.std.specs.Option.{option_map};
 ghost use Rattle.charges.specs.Charging.{rates_for};
 ghost use Rattle.charges.specs.Hybrid.{hybrid_pools, hybrid};
 ghost use Rattle.charges.specs.Pools.{PoolsWithin};
-ghost use Rattle.charges.specs.Rows.{Good};
 ghost use Rattle.charges.specs.Settings.{setting_number};
 ghost use Rattle.charges.specs.Tables.{rows_of};
 ghost use Rattle.std.proofs.Common.{arith};
@@ -14,13 +13,14 @@ ghost use Rattle.charges.specs.Keeping.{keeps-cover, keeps-idle, keeps-bounded, 
 
 use crate::billing::{Billing, Rates};
 use crate::charge::Charge;
-use crate::charging::{charge_by, rates_for};
 use crate::fault::{ChargeFault, SettingFault};
 use crate::pool::{Basis, Pool};
+use crate::pools::Pools;
 use crate::requirement::{all_required, portion};
-use crate::table::{OwnerRow, Table};
+use crate::table::Table;
 
 // What percentage of all requirements is carried by load.
+// As it is: one generic type for both charges is no plainer: the pools and the settings differ, and all else is a call of the pools.
 #[derive(Clone, Copy)]
 pub struct Hybrid {
     percent: u8,
@@ -42,24 +42,19 @@ impl Hybrid {
     pub fn rates(&self, table: &Table, owner: usize) -> Option<Rates>
         ensures { result ≡ option_map (rates_for (hybrid_pools self.now.percent (rows_of table.now))) (slice_get (rows_of table.now) owner) }
     {
-        let Some(row) = table.row(owner) else {
-            return None;
-        };
-        let pools = self.pools(table.rows());
-        Some(rates_for(&pools, &row))
+        Pools::new(&self.pools(table)).owner_rates(table, owner)
     }
 
     // The pool of the loads, and that of the peaks.
-    fn pools(&self, rows: &[OwnerRow]) -> [Pool; 2]
-        requires { Good rows.now }
-        ensures pools { result ≡ hybrid_pools self.now.percent rows.now }
+    fn pools(&self, table: &Table) -> [Pool; 2]
+        ensures pools { result ≡ hybrid_pools self.now.percent (rows_of table.now) }
         ensures within { PoolsWithin result }
     {
-        let all = all_required(rows);
+        let all = all_required(table);
         let by_load = portion(all, self.percent, 100);
         [
-            Pool::new(by_load, Basis::GridLoad, rows),
-            Pool::new(all - by_load, Basis::Peak, rows),
+            Pool::new(by_load, Basis::GridLoad, table),
+            Pool::new(all - by_load, Basis::Peak, table),
         ]
     }
 }
@@ -76,8 +71,6 @@ impl Charge for Hybrid {
     ghost one_of_each_for_every_owner = { λ charge month rows good. keeps-one-of-each (hybrid_pools charge.percent rows) rows };
 
     fn ask(&self, _month: u16, table: &Table) -> Result<Billing, ChargeFault> {
-        let rows = table.rows();
-        let pools = self.pools(rows);
-        charge_by(&pools, rows)
+        Pools::new(&self.pools(table)).charge(table)
     }
 }

@@ -1,10 +1,12 @@
 // Making a table, and reading it.
-ghost use Rattle.std.specs.Prelude.{◌≡◌, ◌*◌, ◌≤◌, false, length, take};
+ghost use Rattle.std.specs.Prelude.{◌≡◌, ◌≤◌, false, length};
 ghost use Rattle.std.specs.List.{slice_get};
+ghost use Rattle.charges.specs.Owners.{items_of};
 ghost use Rattle.charges.specs.Rows.{Good, ehv_size, nhv_size};
 ghost use Rattle.charges.specs.Tables.{rows_of, TableAnswer, outside_areas, outside_figure, outside_figures, outside_requirement, outside_use};
 
 use crate::fault::TableFault;
+use crate::owners::Owners;
 use crate::table::{OwnerRow, Table};
 
 impl Table {
@@ -12,7 +14,8 @@ impl Table {
     pub fn new(rows: &[OwnerRow]) -> Result<Table, TableFault>
         ensures { TableAnswer result rows.now }
     {
-        if rows.is_empty() || rows.len() > 16 || some_area_outside(rows) {
+        let owners = Owners::new(rows).ok_or(TableFault::Owners)?;
+        if rows.is_empty() || some_area_outside(rows) {
             return Err(TableFault::Owners);
         }
         if some_figure_outside(rows) {
@@ -22,28 +25,21 @@ impl Table {
         if ehv > 2_000_000_000 || ehv + nhv > 3_000_000_000 {
             return Err(TableFault::Totals);
         }
-        Ok(Table {
-            rows: kept(rows),
-            count: rows.len(),
-        })
+        Ok(Table { rows: owners })
     }
 
     // How many owners there are.
     pub fn count(&self) -> usize
         ensures { result ≡ length (rows_of self.now) }
     {
-        self.count
+        self.rows.count()
     }
 
     // An owner's row.
     pub fn row(&self, owner: usize) -> Option<OwnerRow>
         ensures { result ≡ slice_get (rows_of self.now) owner }
     {
-        if owner < self.count {
-            Some(self.rows[owner])
-        } else {
-            None
-        }
+        self.rows.at(owner)
     }
 
     // All the rows.
@@ -51,8 +47,15 @@ impl Table {
         ensures rows { result.now ≡ rows_of self.now }
         ensures good { Good result.now }
     {
-        let all = &self.rows[..];
-        &all[0..self.count]
+        self.by_owner().all()
+    }
+
+    // The same rows as the owners' list, to reckon with owner by owner.
+    pub fn by_owner(&self) -> &Owners<OwnerRow>
+        ensures rows { items_of result.now ≡ rows_of self.now }
+        ensures good { Good (items_of result.now) }
+    {
+        &self.rows
     }
 }
 
@@ -60,24 +63,14 @@ impl Table {
 fn some_area_outside(rows: &[OwnerRow]) -> bool
     ensures { result ≡ outside_areas rows.now }
 {
-    for row in rows {
-        if row.area > 2 {
-            return true;
-        }
-    }
-    false
+    rows.iter().any(|row| row.area > 2)
 }
 
 // Whether a row has a figure outside its limits.
 fn some_figure_outside(rows: &[OwnerRow]) -> bool
     ensures { result ≡ outside_figures rows.now }
 {
-    for row in rows {
-        if figure_outside(row) {
-            return true;
-        }
-    }
-    false
+    rows.iter().any(figure_outside)
 }
 
 // Whether one of a row's figures is outside its limits.
@@ -120,17 +113,4 @@ fn sizes(rows: &[OwnerRow]) -> (u64, u64)
         nhv += row.nhv.unsigned_abs();
     }
     (ehv, nhv)
-}
-
-// The rows, at the front of the sixteen places of a table.
-fn kept(rows: &[OwnerRow]) -> [OwnerRow; 16]
-    requires some { 1 ≤ length rows.now }
-    requires few { length rows.now ≤ 16 }
-    ensures { take (length rows.now) result ≡ rows.now }
-{
-    let mut all = [rows[0]; 16];
-    for (i, row) in rows.iter().enumerate() {
-        all[i] = *row;
-    }
-    all
 }

@@ -1,21 +1,25 @@
 // Pools: sums of dollars that are divided over what the owners filed, and that set rates.
-ghost use Rattle.std.specs.Prelude.{◌≡◌, ◌*◌, ◌≤◌, map, length, take, unsigned_abs};
+ghost use Rattle.std.specs.Prelude.{◌≡◌, ◌*◌, ◌≤◌, unsigned_abs};
 ghost use Rattle.division.specs.Shares.{total};
+ghost use Rattle.charges.specs.Owners.{items_of};
 ghost use Rattle.charges.specs.Pools.{weight, weights, bears, basis_place, pool_of, pool_rate, rate_in, unfiled};
-ghost use Rattle.charges.specs.Rows.{Good};
+ghost use Rattle.charges.specs.Tables.{rows_of};
 
-use crate::table::OwnerRow;
+use crate::owners::Owners;
+use crate::table::{OwnerRow, Table};
 use division::nearest;
 
 // What a pool is divided over: the filed loads of an area, all filed loads, or all filed peaks.
 #[derive(Clone, Copy)]
 pub(crate) enum Basis {
+    // As it is: an area as in a row of a table.
     AreaLoad(u8),
     GridLoad,
     Peak,
 }
 
 // What an owner is metered by, and so what a rate is for.
+// As it is: a function each in its place is no plainer: what a pool bears on goes by both the meter and the basis.
 #[derive(Clone, Copy)]
 pub(crate) enum Meter {
     Mwh,
@@ -48,6 +52,13 @@ impl Basis {
         }
     }
 
+    // What each owner weighs.
+    pub(crate) fn weights(self, table: &Table) -> Owners<u64>
+        ensures { items_of result ≡ weights self (rows_of table.now) }
+    {
+        table.rows.map(|row| self.weight(row))
+    }
+
     // Whether a pool's rate is one for what a meter of the owner counts.
     fn bears(self, meter: Meter, row: &OwnerRow) -> bool
         ensures { result ≡ bears meter self row.now }
@@ -76,14 +87,13 @@ impl Basis {
 
 impl Pool {
     // The pool of a sum over what the owners filed.
-    pub(crate) fn new(sum: i64, basis: Basis, rows: &[OwnerRow]) -> Pool
-        requires { Good rows.now }
-        ensures { result ≡ pool_of sum basis rows.now }
+    pub(crate) fn new(sum: i64, basis: Basis, table: &Table) -> Pool
+        ensures { result ≡ pool_of sum basis (rows_of table.now) }
     {
         Pool {
             sum,
             basis,
-            filed: filed(basis, rows),
+            filed: filed(basis, table),
         }
     }
 
@@ -118,25 +128,8 @@ impl Pool {
 }
 
 // All that the owners filed.
-fn filed(basis: Basis, rows: &[OwnerRow]) -> u64
-    requires { Good rows.now }
-    ensures { result ≡ total (weights basis rows.now) }
+fn filed(basis: Basis, table: &Table) -> u64
+    ensures { result ≡ total (weights basis (rows_of table.now)) }
 {
-    let mut all = 0;
-    for row in rows {
-        all += basis.weight(row);
-    }
-    all
-}
-
-// What each owner weighs, at the front of sixteen places.
-pub(crate) fn weighed(basis: Basis, rows: &[OwnerRow]) -> [u64; 16]
-    requires { length rows.now ≤ 16 }
-    ensures { take (length rows.now) result ≡ weights basis rows.now }
-{
-    let mut all = [0; 16];
-    for (i, row) in rows.iter().enumerate() {
-        all[i] = basis.weight(row);
-    }
-    all
+    basis.weights(table).all().iter().sum()
 }

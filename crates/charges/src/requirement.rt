@@ -1,56 +1,62 @@
 // What the owners of a table require.
-ghost use Rattle.std.specs.Prelude.{◌≡◌, ◌<◌, ◌≤◌, pos, ◌*ℤ◌, unsigned_abs};
+ghost use Rattle.std.specs.Prelude.{◌≡◌, ◌<◌, ◌≤◌, map, pos, ◌*ℤ◌, unsigned_abs};
+ghost use Rattle.charges.specs.Amounts.{amounts_of};
 ghost use Rattle.charges.specs.Pools.{rounded_down};
-ghost use Rattle.charges.specs.Rows.{Good, requirements, all_ehv, all_nhv, area_ehv, ehv_in};
+ghost use Rattle.charges.specs.Rows.{requirements, all_ehv, all_nhv, area_ehv, ehv_in};
+ghost use Rattle.charges.specs.Tables.{rows_of};
 
-use crate::table::OwnerRow;
+use crate::amounts::Amounts;
+use crate::table::{OwnerRow, Table};
+
+// For existing facilities, owner by owner.
+pub(crate) fn ehv_of(table: &Table) -> Amounts
+    ensures { amounts_of result ≡ map (λ x. x.ehv) (rows_of table.now) }
+{
+    table.rows.map(ehv)
+}
+
+fn ehv(row: &OwnerRow) -> i64
+    ensures { result ≡ row.now.ehv }
+{
+    row.ehv
+}
+
+fn nhv(row: &OwnerRow) -> i64
+    ensures { result ≡ row.now.nhv }
+{
+    row.nhv
+}
 
 // For existing facilities, of all owners.
-pub(crate) fn all_ehv(rows: &[OwnerRow]) -> i64
-    requires { Good rows.now }
-    ensures value { result ≡ all_ehv rows.now }
+pub(crate) fn all_ehv(table: &Table) -> i64
+    ensures value { result ≡ all_ehv (rows_of table.now) }
     ensures bound { unsigned_abs result ≤ 2000000000 }
 {
-    let mut sum = 0;
-    for row in rows {
-        sum += row.ehv;
-    }
-    sum
+    ehv_of(table).total() as i64
 }
 
 // For new facilities, of all owners.
-pub(crate) fn all_nhv(rows: &[OwnerRow]) -> i64
-    requires { Good rows.now }
-    ensures value { result ≡ all_nhv rows.now }
+pub(crate) fn all_nhv(table: &Table) -> i64
+    ensures value { result ≡ all_nhv (rows_of table.now) }
     ensures bound { unsigned_abs result ≤ 3000000000 }
 {
-    let mut sum = 0;
-    for row in rows {
-        sum += row.nhv;
-    }
-    sum
+    table.rows.map(nhv).total() as i64
 }
 
 // For all facilities, of all owners.
-pub(crate) fn all_required(rows: &[OwnerRow]) -> i64
-    requires { Good rows.now }
-    ensures value { result ≡ requirements rows.now }
+pub(crate) fn all_required(table: &Table) -> i64
+    ensures value { result ≡ requirements (rows_of table.now) }
     ensures bound { unsigned_abs result ≤ 5000000000 }
 {
-    all_ehv(rows) + all_nhv(rows)
+    all_ehv(table) + all_nhv(table)
 }
 
 // For existing facilities, of an area's owners.
-pub(crate) fn area_ehv(area: u8, rows: &[OwnerRow]) -> i64
-    requires { Good rows.now }
-    ensures value { result ≡ area_ehv area rows.now }
+pub(crate) fn area_ehv(area: u8, table: &Table) -> i64
+    ensures value { result ≡ area_ehv area (rows_of table.now) }
     ensures bound { unsigned_abs result ≤ 2000000000 }
 {
-    let mut sum = 0;
-    for row in rows {
-        sum += ehv_in(area, row);
-    }
-    sum
+    table.rows.map(|row| ehv_in(area, row)).total() as i64
 }
 
 // An owner's requirement for existing facilities, if it is in the area.

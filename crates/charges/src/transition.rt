@@ -50,12 +50,7 @@ impl<C: Charge + Drop> Transition<C> {
 fn some_cap_outside(caps: &[u32]) -> bool
     ensures { result ≡ outside_caps caps.now }
 {
-    for cap in caps {
-        if *cap > MOST_CAP {
-            return true;
-        }
-    }
-    false
+    caps.iter().any(|cap| *cap > MOST_CAP)
 }
 
 impl<C: Charge> Charge for Transition<C> {
@@ -78,11 +73,8 @@ impl<C: Charge> Charge for Transition<C> {
         (C.Charge.one_of_each_for_every_owner charge.below month rows good) };
 
     fn ask(&self, month: u16, table: &Table) -> Result<Billing, ChargeFault> {
-        let rows = table.rows();
-        match self.below.ask(month, table) {
-            Ok(billing) => self.caps.add_to(&billing, rows),
-            Err(fault) => Err(risen(fault)),
-        }
+        let billing = self.below.ask(month, table).map_err(risen)?;
+        self.caps.add_to(&billing, table)
     }
 }
 

@@ -6,25 +6,8 @@ ghost use Rattle.division.specs.Shares.{int_sum};
 ghost use Rattle.charges.specs.Amounts.{amounts_of};
 ghost use Rattle.charges.specs.Worked.{worked_rows};
 
-use anyhow::anyhow;
+use anyhow::{Context, anyhow};
 use charges::{Amounts, Billing, Charge, Hybrid, OwnerRow, Rates, Table, Transition, Volumetric};
-
-// A charge that also tells its rates.
-trait Priced: Charge {
-    fn rates_of(&self, table: &Table, owner: usize) -> Option<Rates>;
-}
-
-impl Priced for Volumetric {
-    fn rates_of(&self, table: &Table, owner: usize) -> Option<Rates> {
-        self.rates(table, owner)
-    }
-}
-
-impl Priced for Hybrid {
-    fn rates_of(&self, table: &Table, owner: usize) -> Option<Rates> {
-        self.rates(table, owner)
-    }
-}
 
 // Three owners, one in the first area and two in the second.
 fn worked_rows() -> [OwnerRow; 3]
@@ -66,9 +49,8 @@ fn total(amounts: &Amounts) -> Option<i64>
     ensures { IfSome result (λ sum. sum ≡ int_sum (amounts_of amounts.now)) }
 {
     let mut sum: i64 = 0;
-    for owner in 0..amounts.count() {
-        let amount = amounts.at(owner)?;
-        sum = sum.checked_add(amount)?;
+    for amount in amounts.all() {
+        sum = sum.checked_add(*amount)?;
     }
     Some(sum)
 }
@@ -77,43 +59,44 @@ fn print_owner(
     rt: &impl Print,
     owner: usize,
     rates: Option<Rates>,
-    billing: &Billing,
+    part: i64,
+    bill: i64,
 ) -> anyhow::Result<()> {
-    let (Some(rates), Some(part), Some(bill)) = (
-        rates,
-        billing.parts.at(owner),
-        billing.bills.at(owner),
-    ) else {
-        return Err(anyhow!("an owner without a bill"));
-    };
-    let mwh = rates.mwh;
-    let mw = rates.mw;
+    let Rates { mwh, mw } = rates.context("an owner without rates")?;
     println!(rt; "{owner:>5} {mwh:>10} {mw:>10} {part:>8} {bill:>8}")?;
     Ok(())
 }
 
 fn print_totals(rt: &impl Print, billing: &Billing) -> anyhow::Result<()> {
-    let (Some(parts), Some(bills)) = (total(&billing.parts), total(&billing.bills)) else {
-        return Err(anyhow!("a total too large"));
-    };
+    let parts = total(&billing.parts).context("a total too large")?;
+    let bills = total(&billing.bills).context("a total too large")?;
     println!(rt; "total {parts:>30} {bills:>8}")?;
     Ok(())
 }
 
+// What a charge asks for the month.
+fn asked<C: Charge>(charge: &C, table: &Table) -> anyhow::Result<Billing> {
+    charge
+        .ask(0, table)
+        .map_err(|_| anyhow!("the month is refused"))
+}
+
 // Rates are in hundredths of a cent, parts in dollars, bills in cents.
-fn print_charge<C: Priced>(
+fn print_charge<C: Charge, F: Fn(usize) -> Option<Rates>>(
     rt: &impl Print,
     title: &str,
     charge: &C,
+    rates: &F,
     table: &Table,
-) -> anyhow::Result<()> {
-    let Ok(billing) = charge.ask(0, table) else {
-        return Err(anyhow!("the month is refused"));
-    };
+) -> anyhow::Result<()>
+    requires { F.IsAlwaysCallable rates.now }
+{
+    let billing = asked(charge, table)?;
     println!(rt; "{title}")?;
     println!(rt; "owner   MWh rate    MW rate     part     bill")?;
-    for owner in 0..table.count() {
-        print_owner(rt, owner, charge.rates_of(table, owner), &billing)?;
+    let owed = billing.parts.all().iter().zip(billing.bills.all());
+    for (owner, (part, bill)) in owed.enumerate() {
+        print_owner(rt, owner, rates(owner), *part, *bill)?;
     }
     print_totals(rt, &billing)
 }
@@ -121,10 +104,7 @@ fn print_charge<C: Priced>(
 // A column's name and the owners' amounts.
 fn print_owners(rt: &impl Print, name: &str, amounts: &Amounts) -> anyhow::Result<()> {
     print!(rt; "{name:<12}")?;
-    for owner in 0..amounts.count() {
-        let Some(amount) = amounts.at(owner) else {
-            return Err(anyhow!("an owner without an amount"));
-        };
+    for amount in amounts.all() {
         print!(rt; " {amount:>8}")?;
     }
     Ok(())
@@ -133,24 +113,16 @@ fn print_owners(rt: &impl Print, name: &str, amounts: &Amounts) -> anyhow::Resul
 // A column with what its amounts add up to.
 fn print_column(rt: &impl Print, name: &str, amounts: &Amounts) -> anyhow::Result<()> {
     print_owners(rt, name, amounts)?;
-    let Some(sum) = total(amounts) else {
-        return Err(anyhow!("a total too large"));
-    };
+    let sum = total(amounts).context("a total too large")?;
     println!(rt; " {sum:>8}")?;
     Ok(())
 }
 
 // A layer on the volumetric charge: its columns, and parts and bills with its charges added.
 fn print_layer(rt: &impl Print, title: &str, caps: [u32; 16], table: &Table) -> anyhow::Result<()> {
-    let Ok(below) = Volumetric::new(8) else {
-        return Err(anyhow!("no such volumetric charge"));
-    };
-    let Ok(layer) = Transition::new(below, 8, caps) else {
-        return Err(anyhow!("no such layer"));
-    };
-    let Ok(billing) = layer.ask(0, table) else {
-        return Err(anyhow!("the month is refused"));
-    };
+    let below = Volumetric::new(8).map_err(|_| anyhow!("no such volumetric charge"))?;
+    let layer = Transition::new(below, 8, caps).map_err(|_| anyhow!("no such layer"))?;
+    let billing = asked(&layer, table)?;
     let columns = layer.columns(table);
     println!(rt; "{title}")?;
     println!(rt; "owner               0        1        2    total")?;
@@ -169,17 +141,23 @@ fn print_layer(rt: &impl Print, title: &str, caps: [u32; 16], table: &Table) -> 
 }
 
 fn run(rt: &impl Print) -> anyhow::Result<()> {
-    let Ok(table) = Table::new(&worked_rows()) else {
-        return Err(anyhow!("the rows make no table"));
-    };
-    let Ok(volumetric) = Volumetric::new(8) else {
-        return Err(anyhow!("no such volumetric charge"));
-    };
-    let Ok(hybrid) = Hybrid::new(50) else {
-        return Err(anyhow!("no such hybrid charge"));
-    };
-    print_charge(rt, "volumetric, 8 tenths grid-wide", &volumetric, &table)?;
-    print_charge(rt, "hybrid, 50 percent by load", &hybrid, &table)?;
+    let table = Table::new(&worked_rows()).map_err(|_| anyhow!("the rows make no table"))?;
+    let volumetric = Volumetric::new(8).map_err(|_| anyhow!("no such volumetric charge"))?;
+    let hybrid = Hybrid::new(50).map_err(|_| anyhow!("no such hybrid charge"))?;
+    print_charge(
+        rt,
+        "volumetric, 8 tenths grid-wide",
+        &volumetric,
+        &|owner| volumetric.rates(&table, owner),
+        &table,
+    )?;
+    print_charge(
+        rt,
+        "hybrid, 50 percent by load",
+        &hybrid,
+        &|owner| hybrid.rates(&table, owner),
+        &table,
+    )?;
     let two_capped = [200, 0, 100, 0, 0, 0, 0, 0, 0, 0, 0, 0, 0, 0, 0, 0];
     print_layer(
         rt,

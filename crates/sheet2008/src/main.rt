@@ -2,31 +2,30 @@
 // Three of its cells cannot be read: PG&E's burden in column [30] and charge in column [38], and SCE's mitigation in column [35].
 #![tactic(auto)]
 
-use anyhow::anyhow;
+use anyhow::{Context, ensure};
 use charges::{Amounts, OwnerRow, Table, Transition, Volumetric};
 
 // A column of the sheet: the nine owners' figures and then the total, 0 where a figure cannot be read.
 #[derive(Clone, Copy)]
 struct Column {
     number: u8,
+    // As it is: as Option the figures would need a Some around each of a hundred and twenty-seven.
     unread: Option<usize>,
     figures: [i64; 10],
 }
 
-fn names() -> [&'static str; 10] {
-    [
-        "PG&E",
-        "SCE",
-        "SDG&E",
-        "Anaheim",
-        "Azusa",
-        "Banning",
-        "Pasadena",
-        "Riverside",
-        "Vernon",
-        "total",
-    ]
-}
+const NAMES: [&str; 10] = [
+    "PG&E",
+    "SCE",
+    "SDG&E",
+    "Anaheim",
+    "Azusa",
+    "Banning",
+    "Pasadena",
+    "Riverside",
+    "Vernon",
+    "total",
+];
 
 // An owner with its area, its requirement for existing facilities and its filed load.
 fn row(area: u8, ehv: i64, filed_load: u32) -> OwnerRow {
@@ -217,62 +216,44 @@ fn sheet() -> [Column; 13] {
 
 // The amounts of the nine owners.
 fn listed(amounts: &Amounts) -> Option<[i64; 9]> {
-    let mut all = [0; 9];
-    for i in 0..9 {
-        all[i] = amounts.at(i)?;
-    }
-    Some(all)
+    amounts.all().first_chunk().copied()
 }
 
-fn added(one: &[i64; 9], other: &[i64; 9]) -> Option<[i64; 9]> {
+// Two columns put together, owner by owner.
+fn paired<F: Fn(i64, i64) -> Option<i64>>(
+    one: &[i64; 9],
+    other: &[i64; 9],
+    together: F,
+) -> Option<[i64; 9]>
+    requires { F.IsAlwaysCallable together }
+{
     let mut all = [0; 9];
-    for i in 0..9 {
-        all[i] = one[i].checked_add(other[i])?;
-    }
-    Some(all)
-}
-
-fn less(one: &[i64; 9], other: &[i64; 9]) -> Option<[i64; 9]> {
-    let mut all = [0; 9];
-    for i in 0..9 {
-        all[i] = one[i].checked_sub(other[i])?;
+    for (place, (a, b)) in all.iter_mut().zip(one.iter().zip(other)) {
+        *place = together(*a, *b)?;
     }
     Some(all)
 }
 
 fn total(amounts: &[i64; 9]) -> Option<i64> {
-    let mut sum: i64 = 0;
-    for i in 0..9 {
-        sum = sum.checked_add(amounts[i])?;
-    }
-    Some(sum)
+    amounts
+        .iter()
+        .try_fold(0i64, |sum, amount| sum.checked_add(*amount))
 }
 
 // Our figures, in the order of the sheet's columns.
 fn reckoned() -> Option<[[i64; 9]; 13]> {
     let rows = owners();
-    let Ok(table) = Table::new(&rows) else {
-        return None;
-    };
-    let Ok(below) = Volumetric::new(8) else {
-        return None;
-    };
-    let capped = caps();
-    let Ok(layer) = Transition::new(below, 8, capped) else {
-        return None;
-    };
+    let table = Table::new(&rows).ok()?;
+    let below = Volumetric::new(8).ok()?;
+    let layer = Transition::new(below, 8, caps()).ok()?;
     let columns = layer.columns(&table);
-    let mut required = [0; 9];
-    let mut limits = [0; 9];
-    for i in 0..9 {
-        required[i] = rows[i].ehv;
-        limits[i] = i64::from(capped[i]);
-    }
+    let required = rows.map(|row| row.ehv);
+    let limits = caps().first_chunk()?.map(|cap| i64::from(cap));
     let burdens = listed(&columns.burdens)?;
     let adjusted = listed(&columns.adjusted)?;
     let finals = listed(&columns.finals)?;
     Some([
-        added(&burdens, &required)?,
+        paired(&burdens, &required, |a, b| a.checked_add(b))?,
         required,
         burdens,
         burdens,
@@ -282,7 +263,7 @@ fn reckoned() -> Option<[[i64; 9]; 13]> {
         listed(&columns.payments)?,
         listed(&columns.mitigations)?,
         adjusted,
-        less(&finals, &adjusted)?,
+        paired(&finals, &adjusted, |a, b| a.checked_sub(b))?,
         listed(&columns.charges)?,
         finals,
     ])
@@ -291,53 +272,42 @@ fn reckoned() -> Option<[[i64; 9]; 13]> {
 // Prints a cell of the sheet beside ours, and says whether they are within ten dollars of each other.
 fn print_cell(
     rt: &impl Print,
-    column: &Column,
-    place: usize,
+    number: u8,
     owner: &str,
+    figure: Option<i64>,
     ours: i64,
 ) -> anyhow::Result<bool> {
-    let number = column.number;
-    if column.unread == Some(place) {
+    let Some(figure) = figure else {
         println!(rt; "[{number}]   {owner:<10} cannot be read {ours:>14}")?;
         return Ok(true);
-    }
-    if place >= 10 {
-        return Err(anyhow!("no such place"));
-    }
-    let figure = column.figures[place];
-    let Some(difference) = ours.checked_sub(figure) else {
-        return Err(anyhow!("a difference too large"));
     };
+    let difference = ours.checked_sub(figure).context("a difference too large")?;
     println!(rt; "[{number}]   {owner:<10} {figure:>14} {ours:>14} {difference:>10}")?;
     Ok(difference.unsigned_abs() <= 10)
 }
 
 // Prints a column, the owners and then the total.
 fn print_column(rt: &impl Print, column: &Column, ours: &[i64; 9]) -> anyhow::Result<bool> {
-    let names = names();
+    let sum = total(ours).context("a total too large")?;
+    let totals = [sum];
+    let ours = ours.iter().chain(&totals);
+    let cells = NAMES.iter().zip(column.figures.iter().zip(ours));
     let mut close = true;
-    for place in 0..9 {
-        close = print_cell(rt, column, place, names[place], ours[place])? && close;
+    for (place, (owner, (figure, ours))) in cells.enumerate() {
+        let figure = (column.unread != Some(place)).then_some(*figure);
+        close &= print_cell(rt, column.number, owner, figure, *ours)?;
     }
-    let Some(sum) = total(ours) else {
-        return Err(anyhow!("a total too large"));
-    };
-    Ok(print_cell(rt, column, 9, names[9], sum)? && close)
+    Ok(close)
 }
 
 fn run(rt: &impl Print) -> anyhow::Result<()> {
-    let Some(ours) = reckoned() else {
-        return Err(anyhow!("the filings are refused"));
-    };
-    let columns = sheet();
+    let ours = reckoned().context("the filings are refused")?;
     println!(rt; "column owner              sheet           ours difference")?;
     let mut close = true;
-    for i in 0..13 {
-        close = print_column(rt, &columns[i], &ours[i])? && close;
+    for (column, ours) in sheet().iter().zip(&ours) {
+        close &= print_column(rt, column, ours)?;
     }
-    if !close {
-        return Err(anyhow!("a figure is more than ten dollars off"));
-    }
+    ensure!(close, "a figure is more than ten dollars off");
     Ok(())
 }
 

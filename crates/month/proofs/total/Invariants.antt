@@ -1,7 +1,6 @@
 use Rattle.std.proofs.Common.{◌≡◌, take}
 use Rattle.division.specs.Shares.{int_sum}
-use Rattle.charges.specs.Amounts.{amounts_of}
 use Rattle.month.proofs.total.Given as goal
 
-abbrev pub invariant-loop-owner : goal.invariant-loop-owner
-invariant-loop-owner l = l.sum ≡ int_sum (take l.owner (amounts_of l.amounts))
+abbrev pub invariant-loop-amount : goal.invariant-loop-amount
+invariant-loop-amount l = l.sum ≡ int_sum (take l.amount-index l.amount-items)

@@ -1,10 +1,11 @@
+-- The lines so far, and those that are still to come.
 use Rattle.std.proofs.Common.{◌≡◌, ◌+◌, ◌++◌, drop}
 use Rattle.book.specs.Answers.{nets_in}
 use Rattle.book.specs.Postings.{lines_from}
-use Rattle.book.specs.Workings.{less}
 use Rattle.book.proofs.post.add_lines.Given as goal
 
-abbrev pub invariant-loop-i : goal.invariant-loop-i
-invariant-loop-i g l =
-    (g.R.Roll.lines l.roll ++ lines_from l.month l.mark l.i (drop l.i (less (nets_in l.nets) (nets_in l.before))) ≡ g.R.Roll.lines l.initial.roll ++ lines_from l.month l.mark 0 (less (nets_in l.nets) (nets_in l.before)))
-    × (g.R.Roll.spare l.initial.roll ≡ g.R.Roll.spare l.roll + l.i)
+abbrev pub invariant-loop-owner : goal.invariant-loop-owner
+invariant-loop-owner g l = record {
+  lines : g.R.Roll.lines l.roll ++ lines_from l.month l.mark l.owner (drop l.owner (nets_in l.cents)) ≡ g.R.Roll.lines l.initial.roll ++ lines_from l.month l.mark 0 (nets_in l.cents);
+  spare : g.R.Roll.spare l.initial.roll ≡ g.R.Roll.spare l.roll + l.owner;
+}

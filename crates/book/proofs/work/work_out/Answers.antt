@@ -1,65 +1,99 @@
-use Rattle.std.proofs.Common.{◌≡◌, ℕ, ◌-◌, ◌<◌, ◌≤◌, true, false, ◌⊎◌, List, map, length, get_or, take, IfOk, Ok, Err, Result, sym, ap, ◌∙◌, subst, inl, inr, arith, rules}
-use Rattle.std.proofs.lemmas.List.{length-take, length-take-le, get_or-take, get_or_past}
+use Rattle.std.proofs.Common.{◌≡◌, ℕ, ◌≤◌, true, false, List, map, length, take, ℤ, IfOk, Ok, Err, Result, sym, ap, ◌∙◌, subst, arith, rules}
+use Rattle.std.proofs.lemmas.List.{length-take-le}
 use Rattle.std.proofs.lemmas.Result.{err_from_is_err_and}
-use Rattle.std.proofs.lemmas.Bool.{cases_lt}
 use Rattle.charges.specs.Amounts.{amounts_of}
+use Rattle.charges.specs.Owners.{items_of}
 use Rattle.charges.specs.Outcomes.{Bounded, OneOfEach}
-use Rattle.charges.specs.Rows.{RowWithin, nobody, Good}
+use Rattle.charges.specs.Rows.{Good}
 use Rattle.charges.specs.Tables.{rows_of}
-use Rattle.charges.specs.declared.table.OwnerRow.{OwnerRow}
+use Rattle.charges.specs.declared.owners.Owners.{Owners}
 use Rattle.charges.proofs.Limits.{table-good}
+use Rattle.charges.proofs.Sizes.{owners-long}
+use Rattle.book.specs.Answers.{nets_in}
 use Rattle.book.specs.declared.fault.BookFault.{BookFault}
-use Rattle.book.specs.declared.nets.Nets.{Nets}
+use Rattle.book.specs.declared.standings.Standing.{Standing}
+use Rattle.book.specs.Entries.{Noted}
 use Rattle.book.specs.Faults.{refusal}
+use Rattle.book.specs.Forces.{InForce}
 use Rattle.book.specs.Meaning.{noted}
 use Rattle.book.specs.Workings.{rows_from, totals_check}
 use Rattle.book.proofs.Outcomes.{filing-stops, reading-stops, totals-stop, charge-stops, nets-follow, bills-within}
 use Rattle.book.proofs.Balancing.{balanced, made-always}
-use Rattle.book.proofs.Tabling.{nobody-within}
+use Rattle.book.proofs.Force.{in-force-front}
+use Rattle.book.proofs.Tabling.{length-rows}
 use Rattle.book.proofs.work.work_out.Goals as goal
 
-front-within : (rows : List OwnerRow) (n : ℕ) → ((k : ℕ) → RowWithin (get_or rows k nobody)) → (k : ℕ) → RowWithin (get_or (take n rows) k nobody)
-front-within rows n all k = by (cases_lt k n)
-  where
-    by : (k < n) ⊎ (n ≤ k) → RowWithin (get_or (take n rows) k nobody)
-    by (inl h) = let e = get_or-take n rows k nobody h in rw e (all k)
-    by (inr h) = let e = get_or_past (take n rows) k nobody (simp length-take (omega arith)) in rw e nobody-within
-
-many-follow : (r : Result Nets BookFault) (m n : ℕ) → IfOk r (λ x. x.count ≡ m) → m ≡ n → IfOk r (λ x. x.count ≡ n)
+many-follow : (r : Result (Owners ℤ) BookFault) (m n : ℕ) → IfOk r (λ x. length (nets_in x) ≡ m) → m ≡ n → IfOk r (λ x. length (nets_in x) ≡ n)
 many-follow (Ok x) m n e f = e ∙ f
 many-follow (Err e) m n h f = tt
 
-pub returns-in-Some : goal.returns-in-Some
-returns-in-Some g c =
-    let es = map noted c.args.entries.now in
-    record { value = filing-stops (g.C.Charge.meaning c.args.charge.now) c.args.areas.now c.args.month es (refusal c.in-Some.fault) (c.in-Some.ensures c.args.month es c.in_force-standing.ensures); bound = tt; many = tt; balanced = tt }
+-- what is in force of the book's owners
+fronted : (standings : List Standing) (areas : List ℕ) (month : ℕ) (es : List Noted) (n : ℕ) → n ≡ length areas → length standings ≡ 16 → length areas ≤ 16 → InForce standings month es
+    → InForce (take n standings) month es × (length areas ≡ length (take n standings))
+fronted standings areas month es n many wide few force =
+    (in-force-front standings n month es (omega arith) force, omega (arith, length-take-le n standings (omega arith)))
 
-pub returns-in-Some-first_unread : goal.returns-in-Some-first_unread
-returns-in-Some-first_unread g c =
+pub returns-in_err-all_filed : goal.returns-in_err-all_filed
+returns-in_err-all_filed g c =
+    let p = err_from_is_err_and c.from_residual.result c.from_residual.ensures.1 in
+    let areas = items_of c.args.areas.now in
     let es = map noted c.args.entries.now in
-    let force = c.in_force-standing.ensures in
-    record { value = reading-stops (g.C.Charge.meaning c.args.charge.now) c.args.areas.now c.args.month es (c.in_default.ensures c.args.month es force) (refusal c.in-Some-first_unread.fault) (c.in-Some-first_unread.ensures c.args.month es force); bound = tt; many = tt; balanced = tt }
+    let wide : length c.in_force-standings.result ≡ 16 = search rules in
+    let n = c.count.ensures in
+    let few : length areas ≤ 16 = omega (arith, owners-long c.args.areas.now, c.args.areas.now.few) in
+    let front = fronted c.in_force-standings.result areas c.args.month es c.count.result n wide few c.in_force-standings.ensures in
+    rw (p.1, p.2) (record { value = filing-stops (g.C.Charge.meaning c.args.charge.now) areas c.args.month es (refusal c.in_err-all_filed.field-0.0) (c.in_err-all_filed.ensures c.args.month es areas front.0 front.1); bound = tt; many = tt; balanced = tt })
+
+pub returns-in_err-all_read : goal.returns-in_err-all_read
+returns-in_err-all_read g c =
+    let p = err_from_is_err_and c.from_residual-in_err-all_read.result c.from_residual-in_err-all_read.ensures.1 in
+    let areas = items_of c.args.areas.now in
+    let es = map noted c.args.entries.now in
+    let wide : length c.in_force-standings.result ≡ 16 = search rules in
+    let n = c.count.ensures in
+    let few : length areas ≤ 16 = omega (arith, owners-long c.args.areas.now, c.args.areas.now.few) in
+    let front = fronted c.in_force-standings.result areas c.args.month es c.count.result n wide few c.in_force-standings.ensures in
+    rw (p.1, p.2) (record {
+      value = reading-stops (g.C.Charge.meaning c.args.charge.now) areas c.args.month es (c.in_ok-all_filed.ensures c.args.month es areas front.0 front.1) (refusal c.in_err-all_read.field-0.0) (c.in_err-all_read.ensures c.args.month es areas front.0 front.1);
+      bound = tt;
+      many = tt;
+      balanced = tt;
+    })
+
+pub all_rows-rows-requires : goal.all_rows-rows-requires
+all_rows-rows-requires g c =
+    let areas = items_of c.args.areas.now in
+    let wide : length c.in_force-standings.result ≡ 16 = search rules in
+    let n = c.count.ensures in
+    let few : length areas ≤ 16 = omega (arith, owners-long c.args.areas.now, c.args.areas.now.few) in
+    let many : length (take c.count.result c.in_force-standings.result) ≡ length areas = length-take-le c.count.result c.in_force-standings.result (omega arith) ∙ n in
+    record { few = omega arith; many = many; areas = c.requires.areas }
 
 pub table_of-requires : goal.table_of-requires
 table_of-requires g c =
-    let n = length c.args.areas.now in
-    let rows = c.all_rows-rows.result in
-    let wide : length rows ≡ 16 = search rules in
-    let long : length (take (n - 0) rows) ≡ n - 0 = length-take-le (n - 0) rows (omega (arith, c.requires.few)) in
-    record { some = omega (arith, c.requires.some); few = omega (arith, c.requires.few); within = front-within rows (n - 0) c.all_rows-rows.ensures.within }
+    let areas = items_of c.args.areas.now in
+    let wide : length c.in_force-standings.result ≡ 16 = search rules in
+    let n = c.count.ensures in
+    let few : length areas ≤ 16 = omega (arith, owners-long c.args.areas.now, c.args.areas.now.few) in
+    let es = map noted c.args.entries.now in
+    let front = fronted c.in_force-standings.result areas c.args.month es c.count.result n wide few c.in_force-standings.ensures in
+    let long = ap length (c.all_rows-rows.ensures.value c.args.month es front.0) ∙ length-rows c.args.month es 0 areas in
+    rw c.all.ensures (record { some = omega (arith, c.requires.some); few = omega arith; within = c.all_rows-rows.ensures.within })
 
 pub returns-in_err-table : goal.returns-in_err-table
 returns-in_err-table g c =
-    let p = err_from_is_err_and c.from_residual.result c.from_residual.ensures.1 in
-    let areas = c.args.areas.now in
+    let p = err_from_is_err_and c.from_residual-in_err-table.result c.from_residual-in_err-table.ensures.1 in
+    let areas = items_of c.args.areas.now in
     let month = c.args.month in
     let es = map noted c.args.entries.now in
-    let force = c.in_force-standing.ensures in
-    let whole : length areas - 0 ≡ length areas = omega arith in
-    let are : take (length areas - 0) c.all_rows-rows.result ≡ rows_from month es 0 areas = ap (λ k. take k c.all_rows-rows.result) whole ∙ c.all_rows-rows.ensures.value month es force in
+    let wide : length c.in_force-standings.result ≡ 16 = search rules in
+    let n = c.count.ensures in
+    let few : length areas ≤ 16 = omega (arith, owners-long c.args.areas.now, c.args.areas.now.few) in
+    let front = fronted c.in_force-standings.result areas month es c.count.result n wide few c.in_force-standings.ensures in
+    let are = c.all.ensures ∙ c.all_rows-rows.ensures.value month es front.0 in
     let fails : (totals_check (rows_from month es 0 areas)).fails ≡ true = subst (λ rows. (totals_check rows).fails ≡ true) are c.in_err-table.ensures.0 in
     rw (p.1, p.2) (record {
-      value = totals-stop (g.C.Charge.meaning c.args.charge.now) areas month es (c.in_default.ensures month es force) (c.in_default-first_unread.ensures month es force) (refusal c.in_err-table.field-0.0) fails c.in_err-table.ensures.1;
+      value = totals-stop (g.C.Charge.meaning c.args.charge.now) areas month es (c.in_ok-all_filed.ensures month es areas front.0 front.1) (c.in_ok-all_read.ensures month es areas front.0 front.1) (refusal c.in_err-table.field-0.0) fails c.in_err-table.ensures.1;
       bound = tt;
       many = tt;
       balanced = tt;
@@ -68,18 +102,20 @@ returns-in_err-table g c =
 pub returns-in_err-billing : goal.returns-in_err-billing
 returns-in_err-billing g c =
     let p = err_from_is_err_and c.from_residual-in_err-billing.result c.from_residual-in_err-billing.ensures.1 in
-    let areas = c.args.areas.now in
+    let areas = items_of c.args.areas.now in
     let month = c.args.month in
     let es = map noted c.args.entries.now in
-    let force = c.in_force-standing.ensures in
+    let wide : length c.in_force-standings.result ≡ 16 = search rules in
+    let n = c.count.ensures in
+    let few : length areas ≤ 16 = omega (arith, owners-long c.args.areas.now, c.args.areas.now.few) in
+    let front = fronted c.in_force-standings.result areas month es c.count.result n wide few c.in_force-standings.ensures in
     let meaning = g.C.Charge.meaning c.args.charge.now in
-    let whole : length areas - 0 ≡ length areas = omega arith in
-    let are : take (length areas - 0) c.all_rows-rows.result ≡ rows_from month es 0 areas = ap (λ k. take k c.all_rows-rows.result) whole ∙ c.all_rows-rows.ensures.value month es force in
+    let are = c.all.ensures ∙ c.all_rows-rows.ensures.value month es front.0 in
     let passes : (totals_check (rows_from month es 0 areas)).fails ≡ false = subst (λ rows. (totals_check rows).fails ≡ false) are c.in_ok-table.ensures.0 in
     let rows : rows_of c.in_ok-table.table ≡ rows_from month es 0 areas = c.in_ok-table.ensures.1 ∙ are in
     let f = c.in_err-billing.field-0.0 in
     rw (p.1, p.2) (record {
-      value = charge-stops meaning areas month es (c.in_default.ensures month es force) (c.in_default-first_unread.ensures month es force) passes f.number f.place f.level (c.in_err-billing.ensures.meant ∙ ap (meaning month) rows);
+      value = charge-stops meaning areas month es (c.in_ok-all_filed.ensures month es areas front.0 front.1) (c.in_ok-all_read.ensures month es areas front.0 front.1) passes f.number f.place f.level (c.in_err-billing.ensures.meant ∙ ap (meaning month) rows);
       bound = tt;
       many = tt;
       balanced = tt;
@@ -93,28 +129,28 @@ nets-requires g c =
     let meant = c.in_ok-billing.ensures.meant in
     let one = subst (OneOfEach (rows_of t)) (sym meant) (g.met.C.Charge.one_of_each_for_every_owner c.args.charge.now c.args.month (rows_of t) good) in
     let bound = subst Bounded (sym meant) (g.met.C.Charge.figures_stay_bounded c.args.charge.now c.args.month (rows_of t) good) in
-    rw (c.rows.ensures.rows, c.all.ensures) (record { good = good; many = one.1; small = bills-within (amounts_of b.bills) bound.1 })
+    record { many = one.1; small = bills-within (amounts_of b.bills) bound.1 }
 
 pub returns : goal.returns
 returns g c =
-    let areas = c.args.areas.now in
+    let areas = items_of c.args.areas.now in
     let month = c.args.month in
     let es = map noted c.args.entries.now in
-    let force = c.in_force-standing.ensures in
+    let wide : length c.in_force-standings.result ≡ 16 = search rules in
+    let n = c.count.ensures in
+    let few : length areas ≤ 16 = omega (arith, owners-long c.args.areas.now, c.args.areas.now.few) in
+    let front = fronted c.in_force-standings.result areas month es c.count.result n wide few c.in_force-standings.ensures in
     let meaning = g.C.Charge.meaning c.args.charge.now in
     let b = c.in_ok-billing.billing in
-    let whole : length areas - 0 ≡ length areas = omega arith in
-    let are : take (length areas - 0) c.all_rows-rows.result ≡ rows_from month es 0 areas = ap (λ k. take k c.all_rows-rows.result) whole ∙ c.all_rows-rows.ensures.value month es force in
+    let are = c.all.ensures ∙ c.all_rows-rows.ensures.value month es front.0 in
     let passes : (totals_check (rows_from month es 0 areas)).fails ≡ false = subst (λ rows. (totals_check rows).fails ≡ false) are c.in_ok-table.ensures.0 in
     let rows : rows_of c.in_ok-table.table ≡ rows_from month es 0 areas = c.in_ok-table.ensures.1 ∙ are in
     let t = c.in_ok-table.table in
     let good = subst Good rows (table-good t) in
-    let one = subst (OneOfEach (rows_of t)) (sym c.in_ok-billing.ensures.meant) (g.met.C.Charge.one_of_each_for_every_owner c.args.charge.now month (rows_of t) (table-good t)) in
-    let wide : length c.all_rows-rows.result ≡ 16 = search rules in
-    let long = ap length c.all.ensures ∙ one.1 ∙ ap length c.in_ok-table.ensures.1 ∙ ap (λ k. length (take k c.all_rows-rows.result)) whole ∙ length-take-le (length areas) c.all_rows-rows.result (omega (arith, c.requires.few)) in
-    let value = rw (c.rows.ensures.rows, c.all.ensures, rows) at (c.nets.ensures.value (amounts_of b.parts)) in
+    let long = ap length rows ∙ length-rows month es 0 areas in
+    let value = rw rows at (c.nets.ensures.value (amounts_of b.parts)) in
     record {
-      value = nets-follow meaning areas month es (c.in_default.ensures month es force) (c.in_default-first_unread.ensures month es force) passes (amounts_of b.parts) (amounts_of b.bills) _ (c.in_ok-billing.ensures.meant ∙ ap (meaning month) rows) value;
+      value = nets-follow meaning areas month es (c.in_ok-all_filed.ensures month es areas front.0 front.1) (c.in_ok-all_read.ensures month es areas front.0 front.1) passes (amounts_of b.parts) (amounts_of b.bills) _ (c.in_ok-billing.ensures.meant ∙ ap (meaning month) rows) value;
       bound = c.nets.ensures.bound;
       many = many-follow c.nets.result _ (length areas) c.nets.ensures.many long;
       balanced = made-always c.nets.result _ (balanced meaning areas month es good (g.met.C.Charge.parts_cover_the_requirements c.args.charge.now month (rows_from month es 0 areas) good) (g.met.C.Charge.one_of_each_for_every_owner c.args.charge.now month (rows_from month es 0 areas) good));

@@ -1,5 +1,5 @@
-use Rattle.std.proofs.Common.{◌≡◌, ◌<◌, min, [], ◌++◌, length, take, drop, sym, refl, ap, ◌∙◌, subst, append-nil, arith}
-use Rattle.std.proofs.lemmas.List.{drop_all, length-set}
+use Rattle.std.proofs.Common.{◌≡◌, ◌-◌, ◌<◌, min, [], ◌++◌, length, take, drop, sym, refl, ap, ◌∙◌, subst, append-nil, arith}
+use Rattle.std.proofs.lemmas.List.{drop_all, get_or-take, length-set, length-take-le}
 use Rattle.book.specs.Accounts.{Account}
 use Rattle.book.specs.Scripts.{history_of}
 use Rattle.book.proofs.Replayed.{history-more, history-all, rest-kept, drop-next}
@@ -21,8 +21,8 @@ loop-i-preserved g c =
     let earlier = g.R.Roll.lines c.args.roll.now in
     let before = drop (length earlier) (g.R.Roll.lines l.roll) in
     let calls = c.args.calls.now in
-    let called : l.i < length calls = omega (arith, c.loop-i-test.true, c.min-i-end.ensures) in
-    let placed : l.i < length l.answers = omega (arith, c.loop-i-test.true, c.min-i-end.ensures, l.invariant.1) in
+    let called : l.i < length calls = omega (arith, c.loop-i-test.true, c.min-count.ensures) in
+    let placed : l.i < length l.answers = omega (arith, c.loop-i-test.true, c.min-count.ensures, l.invariant.1) in
     let kept = c.perform.ensures.kept earlier before l.invariant.0 in (
       kept,
       length-set l.answers l.i c.perform.result ∙ l.invariant.1,
@@ -30,7 +30,7 @@ loop-i-preserved g c =
       λ t account.
           subst
           (λ h. Account (g.C.Charge.meaning c.perform.new.self.charge) t h c.perform.new.self c.perform.new.journal (drop (length earlier) (g.R.Roll.lines c.perform.new.roll)) (g.R.Roll.spare c.perform.new.roll))
-          (history-more calls l.answers l.i c.index-calls-i.result c.perform.result called placed c.index-calls-i.is)
+          (history-more calls l.answers l.i c.call-item.result c.perform.result called placed (c.call-item.is ∙ get_or-take (c.min-count.result - 0) calls l.i c.call-item.result (omega (arith, c.loop-i-test.true, length-take-le (c.min-count.result - 0) calls (omega (arith, c.min-count.ensures))))))
           (c.perform.ensures.law t (history_of (take l.i calls) (take l.i l.answers)) earlier before _ l.invariant.0 kept (l.invariant.3 t account)),
     )
 
@@ -39,7 +39,7 @@ returns g c =
     let l = c.loop-i in
     let calls = c.args.calls.now in
     let earlier = g.R.Roll.lines c.args.roll.now in
-    let whole : l.i ≡ min (length calls) (length c.args.answers.now) = omega (arith, c.loop-i-test.false, c.min-i-end.ensures) in
+    let whole : l.i ≡ min (length calls) (length c.args.answers.now) = omega (arith, c.loop-i-test.false, c.min-count.ensures) in
     record {
       kept = l.invariant.0;
       places = l.invariant.1;

@@ -1,10 +1,9 @@
-use Rattle.std.proofs.Common.{◌≡◌, ◌+◌, ◌<◌, ◌++◌, List, length, ℤ, Err, Result, take, sym, refl, ap, append-nil, arith}
-use Rattle.book.specs.Books.{areas_of, mark_of, Marked}
-use Rattle.book.specs.Calls.{count_of, entries_in}
+use Rattle.std.proofs.Common.{◌≡◌, ◌+◌, ◌<◌, ◌++◌, length, Err, sym, refl, ap, append-nil, arith}
+use Rattle.book.specs.Books.{mark_of, Marked}
+use Rattle.book.specs.Calls.{count_of}
 use Rattle.book.specs.Answers.{fault_of}
 use Rattle.book.specs.Postings.{lines_of, mark_after, posting_in}
 use Rattle.book.specs.declared.fault.BookFault.TheVariants.{BeyondJournal}
-use Rattle.book.specs.Workings.{Refusal, plain, worked_out}
 use Rattle.book.proofs.Accounting.{posts-on}
 use Rattle.book.proofs.Postable.{beyond, mark-kept}
 use Rattle.book.proofs.book.Book.post_written.Goals as goal
@@ -20,8 +19,7 @@ returns-in_default g c =
     let free = g.R.Roll.spare roll in
     let meaning = g.C.Charge.meaning b.charge in
     let above : count_of j < n = omega (arith, c.in_default.ensures) in
-    let e : ◌≡◌ {A = Result (List ℤ) Refusal} (posting_in meaning b j month n free) (Err (plain 16)) =
-    beyond (λ k. worked_out meaning (areas_of b) month (take k (entries_in j))) (length (areas_of b)) (count_of j) n month (mark_of b month) (entries_in j) free above in
+    let e = beyond meaning b j month n free above in
     let none : g.R.Roll.lines roll ≡ g.R.Roll.lines roll ++ lines_of month n (posting_in meaning b j month n free) = rw e (sym (append-nil _)) in
     let unused : free ≡ free + length (lines_of month n (posting_in meaning b j month n free)) = rw e (omega arith) in
     let marked : Marked month (mark_after n (mark_of b month) (posting_in meaning b j month n free)) b b = rw e (record { areas = refl; charge = refl; marks = mark-kept b.marks month }) in

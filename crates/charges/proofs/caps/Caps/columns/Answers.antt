@@ -1,50 +1,59 @@
+use Rattle.std.proofs.Common.{rules, ◌≤◌, pos, nat_abs}
 use Rattle.division.specs.Shares.{shares}
 use Rattle.charges.specs.Burdens.{along, excess, headroom, payments, mitigations, adjusted}
-use Rattle.charges.proofs.Eased.{burdens-held, excess-held, payments-held, payments-counted, mitigations-are}
-use Rattle.charges.proofs.Settling.{burdens-are, burdens-small, eased-are, final-burdens-are, charges-are, charges-small, charges-count, rates-are}
+use Rattle.charges.specs.Tables.{rows_of}
+use Rattle.charges.proofs.Eased.{burdens-held, excess-held, payments-held, mitigations-are}
+use Rattle.charges.proofs.Given.{given_of_pairs, of_pairs}
+use Rattle.charges.proofs.Limits.{table-good}
+use Rattle.charges.proofs.Settling.{eased-are, final-burdens-are, rates-are}
 use Rattle.charges.proofs.caps.Caps.columns.Goals as goal
 
-pub read-excess-requires : goal.read-excess-requires
-read-excess-requires c = burdens-held c.args.self.now c.burdens_of-burdens.result (burdens-small c.args.self.now c.args.rows.now c.requires c.existing_pools-pools.result c.existing_pools-pools.ensures.pools c.existing_pools-pools.ensures.within c.burdens_of-burdens.result c.burdens_of-burdens.ensures)
+pub map-excess-requires : goal.map-excess-requires
+map-excess-requires c = (
+  search rules,
+  (
+    search rules,
+    of_pairs (λ p. nat_abs p.1 ≤ 1000000000000000) _ _ _ c.beside-owners.ensures 0 (pos 0)
+        (λ k l m. burdens-held c.args.self.now c.burdens-burdens.result k),
+  ),
+)
 
-pub payments-payments-requires : goal.payments-payments-requires
-payments-payments-requires c = burdens-small c.args.self.now c.args.rows.now c.requires c.existing_pools-pools.result c.existing_pools-pools.ensures.pools c.existing_pools-pools.ensures.within c.burdens_of-burdens.result c.burdens_of-burdens.ensures
-
-pub transitions-charges-requires : goal.transitions-charges-requires
-transitions-charges-requires c = burdens-small c.args.self.now c.args.rows.now c.requires c.existing_pools-pools.result c.existing_pools-pools.ensures.pools c.existing_pools-pools.ensures.within c.burdens_of-burdens.result c.burdens_of-burdens.ensures
-
-pub read-requires : goal.read-requires
-read-requires c = burdens-held c.args.self.now c.burdens_of-burdens.result (burdens-small c.args.self.now c.args.rows.now c.requires c.existing_pools-pools.result c.existing_pools-pools.ensures.pools c.existing_pools-pools.ensures.within c.burdens_of-burdens.result c.burdens_of-burdens.ensures)
+pub map-requires : goal.map-requires
+map-requires c = (
+  search rules,
+  (
+    search rules,
+    of_pairs (λ p. nat_abs p.1 ≤ 1000000000000000) _ _ _ c.beside-owners.ensures 0 (pos 0)
+        (λ k l m. burdens-held c.args.self.now c.burdens-burdens.result k),
+  ),
+)
 
 pub less-requires : goal.less-requires
-less-requires c = record {
-  same = payments-counted c.args.self.now c.burdens_of-burdens.result (burdens-small c.args.self.now c.args.rows.now c.requires c.existing_pools-pools.result c.existing_pools-pools.ensures.pools c.existing_pools-pools.ensures.within c.burdens_of-burdens.result c.burdens_of-burdens.ensures) c.payments-payments.result c.read-excess.result c.payments-payments.ensures c.read-excess.ensures;
-  bound = payments-held c.args.self.now c.burdens_of-burdens.result (burdens-small c.args.self.now c.args.rows.now c.requires c.existing_pools-pools.result c.existing_pools-pools.ensures.pools c.existing_pools-pools.ensures.within c.burdens_of-burdens.result c.burdens_of-burdens.ensures) c.payments-payments.result c.read-excess.result c.payments-payments.ensures c.read-excess.ensures;
-  other_bound = excess-held c.args.self.now c.burdens_of-burdens.result (burdens-small c.args.self.now c.args.rows.now c.requires c.existing_pools-pools.result c.existing_pools-pools.ensures.pools c.existing_pools-pools.ensures.within c.burdens_of-burdens.result c.burdens_of-burdens.ensures) c.read-excess.result c.read-excess.ensures;
-}
-
-pub adjusted-requires : goal.adjusted-requires
-adjusted-requires c = burdens-small c.args.self.now c.args.rows.now c.requires c.existing_pools-pools.result c.existing_pools-pools.ensures.pools c.existing_pools-pools.ensures.within c.burdens_of-burdens.result c.burdens_of-burdens.ensures
-
-pub finals-requires : goal.finals-requires
-finals-requires c = burdens-small c.args.self.now c.args.rows.now c.requires c.existing_pools-pools.result c.existing_pools-pools.ensures.pools c.existing_pools-pools.ensures.within c.burdens_of-burdens.result c.burdens_of-burdens.ensures
-
-pub rates_of-requires : goal.rates_of-requires
-rates_of-requires c = record {
-  few = c.requires.few;
-  same = charges-count c.args.self.now c.args.rows.now c.requires c.existing_pools-pools.result c.existing_pools-pools.ensures.pools c.existing_pools-pools.ensures.within c.burdens_of-burdens.result c.burdens_of-burdens.ensures c.transitions-charges.result c.transitions-charges.ensures;
-  bound = charges-small c.args.self.now c.args.rows.now c.requires c.existing_pools-pools.result c.existing_pools-pools.ensures.pools c.existing_pools-pools.ensures.within c.burdens_of-burdens.result c.burdens_of-burdens.ensures c.transitions-charges.result c.transitions-charges.ensures;
-}
+less-requires c =
+    let s = c.args.self.now in
+    let b = c.burdens-burdens.result in
+    let x-is = given_of_pairs _ _ excess (λ x r h. let met = h.says.met in search rules) _ _ _ c.beside-owners.ensures _ c.map-excess.ensures.each in
+    record {
+      bound = payments-held s b c.payments-payments.result c.map-excess.result c.payments-payments.ensures x-is;
+      other_bound = excess-held s b c.map-excess.result x-is;
+    }
 
 pub returns : goal.returns
-returns c = record {
-  burdens = burdens-are c.args.self.now c.args.rows.now c.requires c.existing_pools-pools.result c.existing_pools-pools.ensures.pools c.existing_pools-pools.ensures.within c.burdens_of-burdens.result c.burdens_of-burdens.ensures;
-  headroom = eased-are c.args.self.now c.args.rows.now c.requires c.existing_pools-pools.result c.existing_pools-pools.ensures.pools c.existing_pools-pools.ensures.within c.burdens_of-burdens.result c.burdens_of-burdens.ensures (along headroom) c.read.result c.read.ensures;
-  excess = eased-are c.args.self.now c.args.rows.now c.requires c.existing_pools-pools.result c.existing_pools-pools.ensures.pools c.existing_pools-pools.ensures.within c.burdens_of-burdens.result c.burdens_of-burdens.ensures (along excess) c.read-excess.result c.read-excess.ensures;
-  payments = eased-are c.args.self.now c.args.rows.now c.requires c.existing_pools-pools.result c.existing_pools-pools.ensures.pools c.existing_pools-pools.ensures.within c.burdens_of-burdens.result c.burdens_of-burdens.ensures (payments shares) c.payments-payments.result c.payments-payments.ensures;
-  mitigations = eased-are c.args.self.now c.args.rows.now c.requires c.existing_pools-pools.result c.existing_pools-pools.ensures.pools c.existing_pools-pools.ensures.within c.burdens_of-burdens.result c.burdens_of-burdens.ensures (mitigations shares) c.less.result (mitigations-are c.args.self.now c.burdens_of-burdens.result (burdens-small c.args.self.now c.args.rows.now c.requires c.existing_pools-pools.result c.existing_pools-pools.ensures.pools c.existing_pools-pools.ensures.within c.burdens_of-burdens.result c.burdens_of-burdens.ensures) c.payments-payments.result c.read-excess.result c.payments-payments.ensures c.read-excess.ensures c.less.result c.less.ensures);
-  adjusted = eased-are c.args.self.now c.args.rows.now c.requires c.existing_pools-pools.result c.existing_pools-pools.ensures.pools c.existing_pools-pools.ensures.within c.burdens_of-burdens.result c.burdens_of-burdens.ensures (adjusted shares) c.adjusted.result c.adjusted.ensures;
-  finals = final-burdens-are c.args.self.now c.args.rows.now c.requires c.existing_pools-pools.result c.existing_pools-pools.ensures.pools c.existing_pools-pools.ensures.within c.burdens_of-burdens.result c.burdens_of-burdens.ensures c.finals.result c.finals.ensures;
-  charges = charges-are c.args.self.now c.args.rows.now c.requires c.existing_pools-pools.result c.existing_pools-pools.ensures.pools c.existing_pools-pools.ensures.within c.burdens_of-burdens.result c.burdens_of-burdens.ensures c.transitions-charges.result c.transitions-charges.ensures;
-  rates = rates-are c.args.self.now c.args.rows.now c.requires c.existing_pools-pools.result c.existing_pools-pools.ensures.pools c.existing_pools-pools.ensures.within c.burdens_of-burdens.result c.burdens_of-burdens.ensures c.transitions-charges.result c.transitions-charges.ensures c.rates_of.result c.rates_of.ensures;
-}
+returns c =
+    let s = c.args.self.now in
+    let rows = rows_of c.args.table.now in
+    let good = table-good c.args.table.now in
+    let b = c.burdens-burdens.result in
+    let x-is = given_of_pairs _ _ excess (λ x r h. let met = h.says.met in search rules) _ _ _ c.beside-owners.ensures _ c.map-excess.ensures.each in
+    let h-is = given_of_pairs _ _ headroom (λ x r h. let met = h.says.met in search rules) _ _ _ c.beside-owners.ensures _ c.map.ensures.each in
+    record {
+      burdens = c.burdens-burdens.ensures;
+      headroom = eased-are s rows good b.amounts c.burdens-burdens.ensures (along headroom) c.map.result h-is;
+      excess = eased-are s rows good b.amounts c.burdens-burdens.ensures (along excess) c.map-excess.result x-is;
+      payments = eased-are s rows good b.amounts c.burdens-burdens.ensures (payments shares) c.payments-payments.result c.payments-payments.ensures;
+      mitigations = eased-are s rows good b.amounts c.burdens-burdens.ensures (mitigations shares) c.less.result (mitigations-are s b c.payments-payments.result c.map-excess.result c.payments-payments.ensures x-is c.less.result c.less.ensures);
+      adjusted = eased-are s rows good b.amounts c.burdens-burdens.ensures (adjusted shares) c.adjusted.result c.adjusted.ensures;
+      finals = final-burdens-are s rows good b.amounts c.burdens-burdens.ensures c.finals.result c.finals.ensures;
+      charges = c.charges-charges.ensures.value;
+      rates = rates-are s rows good c.charges-charges.result c.charges-charges.ensures.value c.rates_of.result c.rates_of.ensures;
+    }

@@ -1,36 +1,47 @@
-use Rattle.std.proofs.Common.{w64, SFits}
-use Rattle.charges.proofs.Eased.{adjusted-held, capped-held, own_held, caps-held, again-held, again-counted, finals-are}
+use Rattle.std.proofs.Common.{rules, arith}
+use Rattle.std.proofs.lemmas.Int.{ints}
+use Rattle.charges.specs.Burdens.{of_capped, of_uncapped}
+use Rattle.charges.proofs.Eased.{capped-small, own_held, little-caps, again-held, finals-are}
+use Rattle.charges.proofs.Given.{given_of_pairs, granted_by}
 use Rattle.charges.proofs.caps.Caps.finals.Goals as goal
 
-pub read-requires : goal.read-requires
-read-requires c = adjusted-held c.args.self.now c.args.burdens.now c.requires c.adjusted-adjusted.result c.adjusted-adjusted.ensures
+pub overflow_cast-capped : goal.overflow_cast-capped
+overflow_cast-capped c =
+    let g-is = given_of_pairs _ _ of_capped (λ x r h. let met = h.says.met in search rules) _ _ _ c.beside-adjusted.ensures _ c.map.ensures.each in
+    let small = capped-small c.args.self.now c.args.burdens.now c.adjusted.result c.adjusted.ensures c.map.result g-is in
+    let total = c.total-capped.ensures in
+    omega (arith, ints)
 
-pub total-capped-requires : goal.total-capped-requires
-total-capped-requires c = capped-held c.args.self.now c.args.burdens.now c.requires c.adjusted-adjusted.result c.adjusted-adjusted.ensures c.read.result c.read.ensures
-
-pub read-caps-requires : goal.read-caps-requires
-read-caps-requires c = adjusted-held c.args.self.now c.args.burdens.now c.requires c.adjusted-adjusted.result c.adjusted-adjusted.ensures
-
-pub read-own-requires : goal.read-own-requires
-read-own-requires c = adjusted-held c.args.self.now c.args.burdens.now c.requires c.adjusted-adjusted.result c.adjusted-adjusted.ensures
-
-pub divided-requires : goal.divided-requires
-divided-requires c = caps-held c.args.self.now c.args.burdens.now c.requires c.adjusted-adjusted.result c.adjusted-adjusted.ensures c.read-caps.result c.read-caps.ensures
+pub unwrap-shared-requires : goal.unwrap-shared-requires
+unwrap-shared-requires c =
+    let ws-are = given_of_pairs _ _ (λ cap _. cap) (λ x r h. let met = h.says.met in search rules) _ _ _ c.beside-adjusted.ensures _ c.map-2.ensures.each in
+    let little = little-caps c.args.self.now c.args.burdens.now c.adjusted.result c.adjusted.ensures _ ws-are in
+    granted_by _ _ _ _ c.shares.ensures (omega arith)
 
 pub plus-requires : goal.plus-requires
 plus-requires c =
     let s = c.args.self.now in
-    let a = c.args.burdens.now in
-    let fit : SFits w64 c.total-capped.result = record { sfits = c.total-capped.type_inv } in
+    let b = c.args.burdens.now in
+    let g-is = given_of_pairs _ _ of_capped (λ x r h. let met = h.says.met in search rules) _ _ _ c.beside-adjusted.ensures _ c.map.ensures.each in
+    let ws-are = given_of_pairs _ _ (λ cap _. cap) (λ x r h. let met = h.says.met in search rules) _ _ _ c.beside-adjusted.ensures _ c.map-2.ensures.each in
+    let x-is = given_of_pairs _ _ of_uncapped (λ x r h. let met = h.says.met in search rules) _ _ _ c.beside-adjusted.ensures _ c.map-3.ensures.each in
+    let small = capped-small s b c.adjusted.result c.adjusted.ensures c.map.result g-is in
+    let total = c.total-capped.ensures in
+    let d-is = (rw c.unwrap-shared.ensures at c.shares.ensures).1 in
     record {
-      same = again-counted s a c.requires c.adjusted-adjusted.result c.adjusted-adjusted.ensures c.read.result c.read-caps.result c.divided.result c.total-capped.result fit c.total-capped.ensures c.read.ensures c.read-caps.ensures c.divided.ensures c.read-own.result c.read-own.ensures;
-      bound = again-held s a c.requires c.adjusted-adjusted.result c.adjusted-adjusted.ensures c.read.result c.read-caps.result c.divided.result c.total-capped.result fit c.total-capped.ensures c.read.ensures c.read-caps.ensures c.divided.ensures;
-      more_bound = own_held s a c.requires c.adjusted-adjusted.result c.adjusted-adjusted.ensures c.read-own.result c.read-own.ensures;
+      bound = again-held s b c.adjusted.result c.adjusted.ensures c.map.result c.unwrap-shared.result _ _ g-is ws-are d-is (omega (arith, ints));
+      more_bound = own_held s b c.adjusted.result c.adjusted.ensures c.map-3.result x-is;
     }
 
 pub returns : goal.returns
 returns c =
-    let fit : SFits w64 c.total-capped.result = record { sfits = c.total-capped.type_inv } in
-    finals-are c.args.self.now c.args.burdens.now c.requires c.adjusted-adjusted.result c.adjusted-adjusted.ensures
-    c.read.result c.read-caps.result c.divided.result c.total-capped.result fit c.total-capped.ensures c.read.ensures c.read-caps.ensures c.divided.ensures
-    c.plus.result c.read-own.result c.read-own.ensures c.plus.ensures
+    let s = c.args.self.now in
+    let b = c.args.burdens.now in
+    let g-is = given_of_pairs _ _ of_capped (λ x r h. let met = h.says.met in search rules) _ _ _ c.beside-adjusted.ensures _ c.map.ensures.each in
+    let ws-are = given_of_pairs _ _ (λ cap _. cap) (λ x r h. let met = h.says.met in search rules) _ _ _ c.beside-adjusted.ensures _ c.map-2.ensures.each in
+    let x-is = given_of_pairs _ _ of_uncapped (λ x r h. let met = h.says.met in search rules) _ _ _ c.beside-adjusted.ensures _ c.map-3.ensures.each in
+    let small = capped-small s b c.adjusted.result c.adjusted.ensures c.map.result g-is in
+    let total = c.total-capped.ensures in
+    let d-is = (rw c.unwrap-shared.ensures at c.shares.ensures).1 in
+    finals-are s b c.adjusted.result c.adjusted.ensures c.map.result c.unwrap-shared.result _ _ g-is ws-are d-is (omega (arith, ints))
+    c.plus.result c.map-3.result x-is c.plus.ensures

@@ -1,5 +1,6 @@
 use Rattle.std.proofs.Common.{◌≡◌, ◌≤◌, ℤ, pos, ◌-ℤ◌, ◌*ℤ◌, nat_abs, refl, ap, ◌∙◌, arith, w64}
 use Rattle.std.proofs.lemmas.Int.{to_z-of_z}
+use Rattle.charges.specs.Tables.{rows_of}
 use Rattle.charges.specs.Hybrid.{load_pool, peak_pool}
 use Rattle.charges.specs.Pools.{pool_of, rounded_down}
 use Rattle.charges.specs.declared.pool.Basis.TheVariants.{GridLoad, Peak}
@@ -8,7 +9,7 @@ use Rattle.charges.proofs.hybrid.Hybrid.pools.Goals as goal
 
 pub returns : goal.returns
 returns c =
-    let rows = c.args.rows.now in
+    let rows = (rows_of c.args.table.now) in
     let s = c.args.self.now.percent in
     let all = c.all_required-all.result in
     let by_load = c.portion-by_load.result in
