@@ -1,17 +1,9 @@
 // The answers to a script's calls as text, one line for each.
-use crate::refusal::refusal_of;
-use book::{BookFault, Call, Reply, State};
+use crate::refusal::Refusal;
+use book::{BookFault, Call, Reply, State, Written};
 use rolls::{ArchiveRoll, Roll};
 use std::alloc::AllocError;
 use std::fmt::Write;
-
-// The entry's number, behind what was entered.
-fn lay_entered(text: &mut String, call: &Call, number: usize) -> Result<(), AllocError> {
-    match call {
-        Call::File { .. } => writeln!(text, "filed {number}"),
-        _ => writeln!(text, "read {number}"),
-    }
-}
 
 // An opening by its month and count, and the nets that stand in the draft list's first places, one for each owner.
 fn lay_opened(
@@ -28,22 +20,14 @@ fn lay_opened(
     writeln!(text)
 }
 
-// What became of an opening that a call wrote down.
-fn lay_ended(text: &mut String, ended: &str, call: &Call) -> Result<(), AllocError> {
-    match call {
-        Call::Post(written) | Call::Withdraw(written) => {
-            let month = written.month();
-            let count = written.count();
-            writeln!(text, "{ended} {month} {count}")
-        }
-        _ => Ok(()),
-    }
+// What became of an opening that was written down.
+fn lay_ended(text: &mut String, ended: &str, opening: &Written) -> Result<(), AllocError> {
+    let month = opening.month();
+    let count = opening.count();
+    writeln!(text, "{ended} {month} {count}")
 }
 
-fn lay_state(text: &mut String, call: &Call, state: State) -> Result<(), AllocError> {
-    let Call::State { month } = *call else {
-        return Ok(());
-    };
+fn lay_state(text: &mut String, month: u16, state: &State) -> Result<(), AllocError> {
     match state {
         State::Unsettled => writeln!(text, "unsettled {month}"),
         State::Due { mark } => writeln!(text, "due {month} {mark}"),
@@ -51,29 +35,32 @@ fn lay_state(text: &mut String, call: &Call, state: State) -> Result<(), AllocEr
     }
 }
 
-// The answer to one call of a book of so many owners.
-fn lay_answer(
+// The reply to one call of a book of so many owners; a reply comes to a call of its own kind alone.
+fn lay_reply(
     text: &mut String,
     owners: usize,
     call: &Call,
-    answer: &Result<Reply, BookFault>,
+    reply: &Reply,
 ) -> Result<(), AllocError> {
-    match *answer {
-        Ok(Reply::Entered { number }) => lay_entered(text, call, number),
-        Ok(
+    match (call, reply) {
+        (Call::File { .. }, Reply::Entered { number }) => writeln!(text, "filed {number}"),
+        (_, Reply::Entered { number }) => writeln!(text, "read {number}"),
+        (
+            _,
             Reply::Opened {
                 month,
                 count,
                 draft,
             },
-        ) => lay_opened(text, owners, month, count, &draft),
-        Ok(Reply::Posted) => lay_ended(text, "posted", call),
-        Ok(Reply::Withdrawn) => lay_ended(text, "withdrawn", call),
-        Ok(Reply::Stands(state)) => lay_state(text, call, state),
-        Err(fault) => {
-            let refusal = refusal_of(fault);
-            writeln!(text, "{refusal}")
+        ) => lay_opened(text, owners, *month, *count, draft),
+        (Call::Post(opening) | Call::Withdraw(opening), Reply::Posted) => {
+            lay_ended(text, "posted", opening)
         }
+        (Call::Post(opening) | Call::Withdraw(opening), Reply::Withdrawn) => {
+            lay_ended(text, "withdrawn", opening)
+        }
+        (Call::State { month }, Reply::Stands(state)) => lay_state(text, *month, state),
+        _ => Ok(()),
     }
 }
 
@@ -84,8 +71,14 @@ pub(crate) fn lay_answers(
     calls: &[Call],
     answers: &[Result<Reply, BookFault>],
 ) -> Result<(), AllocError> {
-    for (call, answer) in calls.iter().zip(answers.iter()) {
-        lay_answer(text, owners, call, answer)?;
+    for (call, answer) in calls.iter().zip(answers) {
+        match answer {
+            Ok(reply) => lay_reply(text, owners, call, reply)?,
+            Err(fault) => {
+                let refusal = Refusal::from(*fault);
+                writeln!(text, "{refusal}")?;
+            }
+        }
     }
     Ok(())
 }
@@ -94,14 +87,12 @@ pub(crate) fn lay_answers(
 pub(crate) fn lay_lines(text: &mut String, roll: &ArchiveRoll<'_>) -> Result<(), AllocError> {
     let count = roll.written().len() / 27;
     writeln!(text, "lines {count}")?;
-    for place in 0..count {
-        if let Some(line) = roll.line(place) {
-            let month = line.month();
-            let owner = line.owner();
-            let mark = line.mark();
-            let cents = line.cents();
-            writeln!(text, "{month} {owner} {mark} {cents}")?;
-        }
+    for line in (0..count).filter_map(|place| roll.line(place)) {
+        let month = line.month();
+        let owner = line.owner();
+        let mark = line.mark();
+        let cents = line.cents();
+        writeln!(text, "{month} {owner} {mark} {cents}")?;
     }
     Ok(())
 }

@@ -36,31 +36,40 @@ fn placed(number: u8, place: u8) -> Refusal
 }
 
 // What a refusal of the book tells.
+impl From<BookFault> for Refusal {
+    ghost from_gives = { λ fault r. refusal_in r ≡ refusal fault };
+
+    fn from(fault: BookFault) -> Refusal {
+        match fault {
+            BookFault::Owners => plain(1),
+            BookFault::UnknownOwner => plain(3),
+            BookFault::Month => plain(4),
+            BookFault::Figure => plain(5),
+            BookFault::JournalFull => plain(6),
+            BookFault::ShortDraft => plain(7),
+            BookFault::Current => plain(8),
+            BookFault::NoFiling { owner } => placed(9, owner),
+            BookFault::NoReading { owner } => placed(10, owner),
+            BookFault::Totals => plain(11),
+            BookFault::Charge(fault) => Refusal {
+                number: fault.number,
+                place: Some(fault.place),
+                level: Some(fault.level),
+            },
+            BookFault::UtilityRate { owner } => placed(13, owner),
+            BookFault::NoWeight => plain(15),
+            BookFault::BeyondJournal => plain(16),
+            BookFault::Untouched => plain(17),
+            BookFault::RollFull => plain(18),
+        }
+    }
+}
+
+// The same by a name, for a caller who wants its promise as a clause.
 pub fn refusal_of(fault: BookFault) -> Refusal
     ensures { refusal_in result ≡ refusal fault }
 {
-    match fault {
-        BookFault::Owners => plain(1),
-        BookFault::UnknownOwner => plain(3),
-        BookFault::Month => plain(4),
-        BookFault::Figure => plain(5),
-        BookFault::JournalFull => plain(6),
-        BookFault::ShortDraft => plain(7),
-        BookFault::Current => plain(8),
-        BookFault::NoFiling { owner } => placed(9, owner),
-        BookFault::NoReading { owner } => placed(10, owner),
-        BookFault::Totals => plain(11),
-        BookFault::Charge(fault) => Refusal {
-            number: fault.number,
-            place: Some(fault.place),
-            level: Some(fault.level),
-        },
-        BookFault::UtilityRate { owner } => placed(13, owner),
-        BookFault::NoWeight => plain(15),
-        BookFault::BeyondJournal => plain(16),
-        BookFault::Untouched => plain(17),
-        BookFault::RollFull => plain(18),
-    }
+    Refusal::from(fault)
 }
 
 impl fmt::Display for Refusal {

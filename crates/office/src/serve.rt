@@ -1,6 +1,6 @@
 // A script from standard input, its answers on standard output.
 use crate::session::{Session, hold};
-use anyhow::anyhow;
+use anyhow::{Context, bail};
 use script::read_script;
 use std::fs;
 use std::io::{Read, Write};
@@ -13,14 +13,12 @@ pub fn serve_script(rt: &HostRuntime, file: Option<String>) -> anyhow::Result<()
         Ok(script) => script,
         Err(unread) => {
             eprintln!(rt; "{unread}")?;
-            return Err(anyhow!("the script cannot be read"));
+            bail!("the script cannot be read");
         }
     };
     let Session { text, archive } = hold(rt.alloc(), &script)?;
     rt.stdout().write_all(text.as_bytes())?;
-    let Some(archive) = archive else {
-        return Err(anyhow!("the set-up is refused"));
-    };
+    let archive = archive.context("the set-up is refused")?;
     if let Some(file) = file {
         fs::write(rt, file.as_str(), archive.as_slice())?;
     }

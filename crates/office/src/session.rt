@@ -1,7 +1,7 @@
 // A session: a book is set up, the calls of a script are made, and the answers and the archive are handed out.
 use crate::answers::{lay_answers, lay_lines};
 use crate::halt::Halt;
-use crate::refusal::refusal_of;
+use crate::refusal::Refusal;
 use book::{Book, BookFault, replay};
 use charges::{Charge, Hybrid, SettingFault, Transition, Volumetric};
 use rolls::ArchiveRoll;
@@ -70,30 +70,24 @@ fn run_charged(heap: Global, script: &Script) -> Result<Session, Halt> {
 // The number of a refused set-up: the owners are looked at before any setting.
 fn set_up_number(script: &Script, halt: Halt) -> Result<u8, AllocError> {
     match halt {
-        Halt::SetUp(fault) => Ok(refusal_of(fault).number),
-        Halt::Setting => {
-            let Ok(plain) = Volumetric::new(0) else {
-                return Ok(2);
-            };
-            match Book::new(&script.areas, plain) {
-                Ok(_) => Ok(2),
-                Err(fault) => Ok(refusal_of(fault).number),
-            }
-        }
+        Halt::SetUp(fault) => Ok(Refusal::from(fault).number),
+        Halt::Setting => Ok(
+            Volumetric::new(0)
+                .ok()
+                .and_then(|plain| Book::new(&script.areas, plain).err())
+                .map_or(2, |fault| Refusal::from(fault).number),
+        ),
         Halt::Memory(error) => Err(error),
     }
 }
 
 // Holds the session that a script describes.
 pub fn hold(heap: Global, script: &Script) -> Result<Session, AllocError> {
-    match run_charged(heap, script) {
-        Ok(session) => Ok(session),
-        Err(halt) => {
-            let number = set_up_number(script, halt)?;
-            Ok(Session {
-                text: format!(in heap; "setup refused {number}\n")?,
-                archive: None,
-            })
-        }
-    }
+    run_charged(heap, script).or_else(|halt| {
+        let number = set_up_number(script, halt)?;
+        Ok(Session {
+            text: format!(in heap; "setup refused {number}\n")?,
+            archive: None,
+        })
+    })
 }

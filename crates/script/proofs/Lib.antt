@@ -1,4 +1,1 @@
-mod Digits
 mod Cuts
-mod Names
-mod Kept

@@ -1,15 +1,13 @@
 -- What the numbers behind a command mean: the call that they write, or what is wrong with them.
-use Rattle.std.specs.Prelude.{ℕ, false, cond, List, length, ℤ, Ok, Err, Result, nat_lt, slice_index_or}
+use Rattle.std.specs.Prelude.{ℕ, cond, List, length, ℤ, pos, Ok, Err, Result, nat_lt, slice_index_or}
 use Rattle.book.specs.declared.call.Call.{Call}
 use Rattle.book.specs.declared.call.Call.TheVariants.{File, Read, Open, Post, Withdraw, State}
-use Rattle.book.specs.declared.written.Written.{Written}
 use Rattle.book.specs.Scripts.{written_as}
-use Rattle.script.specs.Numbers.{numeral_of, value_of}
 use Rattle.script.specs.Widths.{up_to, signed64}
-use Rattle.script.specs.declared.command.Command.{Command}
-use Rattle.script.specs.declared.command.Command.TheVariants as command
+use Rattle.script.specs.declared.command.Asked.{Asked}
+use Rattle.script.specs.declared.command.Asked.TheVariants as asked
 use Rattle.script.specs.declared.fault.Wrong.{Wrong}
-use Rattle.script.specs.declared.fault.Wrong.TheVariants.{TooFew, TooMany, NoOpening, UnknownCommand}
+use Rattle.script.specs.declared.fault.Wrong.TheVariants.{TooFew, TooMany, NoOpening}
 use Rattle.script.specs.declared.number.Number.{Number}
 
 -- one reading after another; the first that fails says what is wrong
@@ -21,12 +19,12 @@ and_then (Err e) f = Err e
 abbrev pub exactly : ℕ → ℕ → Result (Unit {0}) Wrong
 exactly wanted count = cond (nat_lt count wanted) (Err TooFew) (cond (nat_lt wanted count) (Err TooMany) (Ok tt))
 
--- the value of the number at a place
+-- the number at a place
 abbrev pub nought : Number
-nought = record { minus = false; size = 0 }
+nought = record { 0 = pos 0 }
 
 abbrev pub value_at : List Number → ℕ → ℤ
-value_at ns i = value_of (numeral_of (slice_index_or ns i nought))
+value_at ns i = (slice_index_or ns i nought).0
 
 -- in 8, 16 and 32 bits, and in 64 bits with a sign
 abbrev pub byte_at : List Number → ℕ → Result ℕ Wrong
@@ -103,16 +101,11 @@ said_by (Post w) = posts (written_as w)
 said_by (Withdraw w) = withdraws (written_as w)
 said_by (State month) = asks (State month)
 
--- the call that a command and its numbers write; a command of the set-up writes none
-abbrev pub call_said : Command → List Number → Result Said Wrong
-call_said command.File ns = told said_by (file_call ns)
-call_said command.Read ns = told said_by (read_call ns)
-call_said command.Open ns = told said_by (open_call ns)
-call_said command.Post ns = told posts (opening_of ns)
-call_said command.Withdraw ns = told withdraws (opening_of ns)
-call_said command.State ns = told said_by (state_call ns)
-call_said command.Owners ns = Err UnknownCommand
-call_said command.Charge ns = Err UnknownCommand
-call_said command.Layer ns = Err UnknownCommand
-call_said command.Journal ns = Err UnknownCommand
-call_said command.Roll ns = Err UnknownCommand
+-- the call that is asked with these numbers
+abbrev pub call_said : Asked → List Number → Result Said Wrong
+call_said asked.File ns = told said_by (file_call ns)
+call_said asked.Read ns = told said_by (read_call ns)
+call_said asked.Open ns = told said_by (open_call ns)
+call_said asked.Post ns = told posts (opening_of ns)
+call_said asked.Withdraw ns = told withdraws (opening_of ns)
+call_said asked.State ns = told said_by (state_call ns)

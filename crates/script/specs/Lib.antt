@@ -1,6 +1,8 @@
 pub mod Numbers
 pub mod Widths
+pub mod Fits
 pub mod Texts
+pub mod Cuts
 pub mod Names
 pub mod Answers
 pub mod Commands

@@ -1,24 +1,21 @@
--- The words that name commands and charges.
-use Rattle.std.specs.Prelude.{ℕ, Bool, true, false, cond, ◌&&◌, List, [], ◌∷◌, Some, None, codes, Option, ◌==◌}
+-- The words that name commands.
+use Rattle.std.specs.Prelude.{ℕ, cond, List, Some, None, codes, Option}
+use Rattle.std.specs.Str.{bytes_eq}
+use Rattle.script.specs.declared.command.Asked.TheVariants.{File, Read, Open, Post, Withdraw, State}
+use Rattle.script.specs.declared.command.Command.TheVariants.{SetUp, Call}
 use Rattle.script.specs.declared.command.Command.{Command}
-use Rattle.script.specs.declared.command.Command.TheVariants.{Owners, Charge, Layer, Journal, Roll, File, Read, Open, Post, Withdraw, State}
-
-unfoldable pub same : List ℕ → List ℕ → Bool
-same [] [] = true
-same [] (b ∷ bs) = false
-same (a ∷ rest) [] = false
-same (a ∷ rest) (b ∷ bs) = a == b && same rest bs
+use Rattle.script.specs.declared.command.Part.TheVariants.{Owners, Charge, Layer, Journal, Roll}
 
 abbrev pub command_named : List ℕ → Option Command
 command_named word =
-    cond (same word (codes "owners")) (Some Owners)
-    (cond (same word (codes "charge")) (Some Charge)
-    (cond (same word (codes "layer")) (Some Layer)
-    (cond (same word (codes "journal")) (Some Journal)
-    (cond (same word (codes "roll")) (Some Roll)
-    (cond (same word (codes "file")) (Some File)
-    (cond (same word (codes "read")) (Some Read)
-    (cond (same word (codes "open")) (Some Open)
-    (cond (same word (codes "post")) (Some Post)
-    (cond (same word (codes "withdraw")) (Some Withdraw)
-    (cond (same word (codes "state")) (Some State) None))))))))))
+    cond (bytes_eq word (codes "owners")) (Some (SetUp Owners))
+    (cond (bytes_eq word (codes "charge")) (Some (SetUp Charge))
+    (cond (bytes_eq word (codes "layer")) (Some (SetUp Layer))
+    (cond (bytes_eq word (codes "journal")) (Some (SetUp Journal))
+    (cond (bytes_eq word (codes "roll")) (Some (SetUp Roll))
+    (cond (bytes_eq word (codes "file")) (Some (Call File))
+    (cond (bytes_eq word (codes "read")) (Some (Call Read))
+    (cond (bytes_eq word (codes "open")) (Some (Call Open))
+    (cond (bytes_eq word (codes "post")) (Some (Call Post))
+    (cond (bytes_eq word (codes "withdraw")) (Some (Call Withdraw))
+    (cond (bytes_eq word (codes "state")) (Some (Call State)) None))))))))))

@@ -1,5 +1,5 @@
 -- What a word writes as a number: decimal digits, with a minus sign before them or none.
-use Rattle.std.specs.Prelude.{ℕ, ◌+◌, ◌-◌, ◌*◌, ◌^◌, min, Bool, true, false, cond, ◌&&◌, List, [], ◌∷◌, ◌++◌, ℤ, pos, neg_ℤ, Some, None, Ok, Err, Option, Result, ◌==◌, nat_le}
+use Rattle.std.specs.Prelude.{ℕ, suc, ◌+◌, ◌-◌, ◌*◌, ◌^◌, min, cond, ◌&&◌, List, [], ◌∷◌, ◌++◌, ℤ, pos, negsuc, neg_ℤ, Some, None, Ok, Err, Option, Result, ◌==◌, nat_le}
 use Rattle.std.specs.Option.{option_map}
 use Rattle.script.specs.declared.fault.Wrong.{Wrong}
 use Rattle.script.specs.declared.fault.Wrong.TheVariants.{NoNumber}
@@ -15,30 +15,28 @@ abbrev pub digits_of : List ℕ → Option ℕ
 digits_of [] = None
 digits_of (b ∷ bs) = digits_from 0 (b ∷ bs)
 
--- a number as it is written
-pub record Numeral : Type 0 where
-  pub minus : Bool
-  pub size : ℕ
+-- a number of this size, and one as far below 0
+abbrev pub above : ℕ → ℤ
+above size = pos size
 
-abbrev pub sized : Bool → ℕ → Numeral
-sized minus size = record { minus = minus; size = size }
+abbrev pub below : ℕ → ℤ
+below size = neg_ℤ (pos size)
 
-abbrev pub numeral : List ℕ → Option Numeral
+-- the number that a word writes
+abbrev pub numeral : List ℕ → Option ℤ
 numeral [] = None
-numeral (b ∷ bs) = cond (b == 45) (option_map (sized true) (digits_of bs)) (option_map (sized false) (digits_of (b ∷ bs)))
-
-abbrev pub value_of : Numeral → ℤ
-value_of n = cond n.minus (neg_ℤ (pos n.size)) (pos n.size)
+numeral (b ∷ bs) = cond (b == 45) (option_map below (digits_of bs)) (option_map above (digits_of (b ∷ bs)))
 
 -- sizes are kept up to the largest that 64 bits hold
 abbrev pub clipped : ℕ → ℕ
 clipped size = min size (2 ^ 64 - 1)
 
-abbrev pub kept : Numeral → Number
-kept n = record { minus = n.minus; size = clipped n.size }
+abbrev pub kept_of : ℤ → ℤ
+kept_of (pos n) = above (clipped n)
+kept_of (negsuc n) = below (clipped (suc n))
 
-abbrev pub numeral_of : Number → Numeral
-numeral_of n = sized n.minus n.size
+abbrev pub kept : ℤ → Number
+kept z = record { 0 = kept_of z }
 
 -- the numbers that words write, behind others; none is left out
 abbrev pub or_no_number : {X : Type 0} → Option Number → (Number → Result X Wrong) → Result X Wrong

@@ -1,5 +1,5 @@
 -- The lines of a text and the words of a line.
-use Rattle.std.specs.Prelude.{ℕ, suc, cond, List, [], ◌∷◌, ◌++◌, ◌==◌}
+use Rattle.std.specs.Prelude.{ℕ, cond, List, [], ◌∷◌, ◌++◌, ◌==◌}
 
 -- a word that is not empty, in front of others
 abbrev pub ended : List ℕ → List (List ℕ) → List (List ℕ)
@@ -21,12 +21,3 @@ lines_after l (b ∷ bs) = cond (b == 10) (l ∷ lines_after [] bs) (lines_after
 
 abbrev pub lines_of : List ℕ → List (List ℕ)
 lines_of text = lines_after [] text
-
--- how many bytes stand before the first of a value, and how many spaces stand in front
-abbrev pub before : ℕ → List ℕ → ℕ
-before byte [] = 0
-before byte (b ∷ bs) = cond (b == byte) 0 (suc (before byte bs))
-
-abbrev pub leading : List ℕ → ℕ
-leading [] = 0
-leading (b ∷ bs) = cond (b == 32) (suc (leading bs)) 0

@@ -1,6 +1,6 @@
 -- Which numbers fit a place.
-use Rattle.std.specs.Prelude.{◌≡◌, ℕ, ◌-◌, ◌^◌, ◌<◌, cond, ℤ, pos, negsuc, Ok, Err, Result, nat_le, nat_lt}
-use Rattle.script.specs.Numbers.{Numeral, kept, numeral_of, value_of}
+use Rattle.std.specs.Prelude.{◌≡◌, ℕ, ◌-◌, ◌^◌, ◌<◌, cond, ℤ, pos, negsuc, Ok, Err, Result, MatchResult, nat_le, nat_lt}
+use Rattle.script.specs.Numbers.{kept}
 use Rattle.script.specs.declared.fault.Wrong.{Wrong}
 use Rattle.script.specs.declared.fault.Wrong.TheVariants.{DoesNotFit}
 
@@ -14,9 +14,13 @@ abbrev pub signed64 : ℤ → Result ℤ Wrong
 signed64 (pos n) = cond (nat_lt n (2 ^ 63)) (Ok (pos n)) (Err DoesNotFit)
 signed64 (negsuc n) = cond (nat_lt n (2 ^ 63)) (Ok (negsuc n)) (Err DoesNotFit)
 
+-- a conversion whose failing says that the number does not fit
+abbrev pub FitsAs : {X E : Type 0} → Result X Wrong → Result X E → Type 0
+FitsAs fitted converted = MatchResult converted (λ x. fitted ≡ Ok x) (λ _. fitted ≡ Err DoesNotFit)
+
 -- a number that is kept fits where the one that is written does, and as the same number: sizes are kept far enough
 abbrev pub KeptSuffices : Type 0
 KeptSuffices =
-    (n : Numeral)
-    → ((most : ℕ) → most < 2 ^ 64 - 1 → up_to most (value_of (numeral_of (kept n))) ≡ up_to most (value_of n))
-    × (signed64 (value_of (numeral_of (kept n))) ≡ signed64 (value_of n))
+    (z : ℤ)
+    → ((most : ℕ) → most < 2 ^ 64 - 1 → up_to most (kept z).0 ≡ up_to most z)
+    × (signed64 (kept z).0 ≡ signed64 z)

@@ -1,15 +1,20 @@
 // The first word of a line.
 ghost use Rattle.std.specs.Prelude.{◌≡◌};
-ghost use Rattle.script.specs.Drafts.{sets_up};
-ghost use Rattle.script.specs.Names.{same, command_named};
+ghost use Rattle.script.specs.Names.{command_named};
 
+// A part of the set-up.
 #[derive(Clone, Copy)]
-pub(crate) enum Command {
+pub(crate) enum Part {
     Owners,
     Charge,
     Layer,
     Journal,
     Roll,
+}
+
+// What is asked of the book.
+#[derive(Clone, Copy)]
+pub(crate) enum Asked {
     File,
     Read,
     Open,
@@ -18,60 +23,41 @@ pub(crate) enum Command {
     State,
 }
 
-// Whether a word is this one.
-pub(crate) fn is_word(word: &[u8], name: &[u8]) -> bool
-    ensures { result ≡ same word.now name.now }
-{
-    if word.len() != name.len() {
-        return false;
-    }
-    for i in 0..word.len() {
-        if word[i] != name[i] {
-            return false;
-        }
-    }
-    true
+// What the first word of a line says: a part of the set-up, or a call.
+#[derive(Clone, Copy)]
+pub(crate) enum Command {
+    SetUp(Part),
+    Call(Asked),
 }
 
 // The command that a word names.
 pub(crate) fn command_named(word: &[u8]) -> Option<Command>
     ensures { result ≡ command_named word.now }
 {
-    if is_word(word, b"owners") {
-        Some(Command::Owners)
-    } else if is_word(word, b"charge") {
-        Some(Command::Charge)
-    } else if is_word(word, b"layer") {
-        Some(Command::Layer)
-    } else if is_word(word, b"journal") {
-        Some(Command::Journal)
-    } else if is_word(word, b"roll") {
-        Some(Command::Roll)
-    } else if is_word(word, b"file") {
-        Some(Command::File)
-    } else if is_word(word, b"read") {
-        Some(Command::Read)
-    } else if is_word(word, b"open") {
-        Some(Command::Open)
-    } else if is_word(word, b"post") {
-        Some(Command::Post)
-    } else if is_word(word, b"withdraw") {
-        Some(Command::Withdraw)
-    } else if is_word(word, b"state") {
-        Some(Command::State)
+    // As it is: tried as a match on byte strings, which parts at each byte: the search leaves sixty-three cases open.
+    if word == b"owners".as_slice() {
+        Some(Command::SetUp(Part::Owners))
+    } else if word == b"charge".as_slice() {
+        Some(Command::SetUp(Part::Charge))
+    } else if word == b"layer".as_slice() {
+        Some(Command::SetUp(Part::Layer))
+    } else if word == b"journal".as_slice() {
+        Some(Command::SetUp(Part::Journal))
+    } else if word == b"roll".as_slice() {
+        Some(Command::SetUp(Part::Roll))
+    } else if word == b"file".as_slice() {
+        Some(Command::Call(Asked::File))
+    } else if word == b"read".as_slice() {
+        Some(Command::Call(Asked::Read))
+    } else if word == b"open".as_slice() {
+        Some(Command::Call(Asked::Open))
+    } else if word == b"post".as_slice() {
+        Some(Command::Call(Asked::Post))
+    } else if word == b"withdraw".as_slice() {
+        Some(Command::Call(Asked::Withdraw))
+    } else if word == b"state".as_slice() {
+        Some(Command::Call(Asked::State))
     } else {
         None
-    }
-}
-
-impl Command {
-    // Whether it belongs to the set-up, or is a call.
-    pub(crate) fn sets_up(self) -> bool
-        ensures { result ≡ sets_up self }
-    {
-        matches!(
-            self,
-            Command::Owners | Command::Charge | Command::Layer | Command::Journal | Command::Roll
-        )
     }
 }

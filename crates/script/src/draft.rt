@@ -3,9 +3,9 @@ ghost use Rattle.std.specs.Prelude.{◌≡◌};
 ghost use Rattle.script.specs.Answers.{Changes};
 ghost use Rattle.script.specs.Commands.{told};
 ghost use Rattle.script.specs.Scripts.{blank, finished, meant_by};
-ghost use Rattle.script.specs.Drafts.{draft_of, with_owners, with_charge, with_layer, with_journal, with_roll, still_open, complete};
+ghost use Rattle.script.specs.Drafts.{draft_of, with_owners, with_charge, with_layer, with_room, still_open, complete};
 
-use crate::calls::{areas, charge_named, layer, room, setting};
+use crate::calls::{areas, charge_named, layer, only};
 use crate::fault::{Stop, Wrong};
 use crate::number::Number;
 use crate::script::{Layer, Plain, Script};
@@ -14,6 +14,7 @@ use std::alloc::Global;
 
 #[derive(Drop)]
 pub(crate) struct Draft {
+    pub(crate) heap: Global,
     pub(crate) owners: Option<Vec<u8>>,
     pub(crate) charge: Option<Plain>,
     pub(crate) layers: Vec<Layer>,
@@ -27,6 +28,7 @@ impl Draft {
         ensures { draft_of result ≡ blank }
     {
         Draft {
+            heap,
             owners: None,
             charge: None,
             layers: Vec::new(heap),
@@ -60,14 +62,13 @@ impl Draft {
         Ok(())
     }
 
-    pub(crate) fn set_owners(&mut self, heap: Global, numbers: &[Number]) -> Result<(), Stop>
+    pub(crate) fn set_owners(&mut self, numbers: &[Number]) -> Result<(), Stop>
         ensures { Changes result (draft_of self.new) (with_owners (draft_of self.old) numbers.now) }
     {
         if self.owners.is_some() {
             return Err(Stop::Wrong(Wrong::Repeated));
         }
-        let areas = areas(heap, numbers)?;
-        self.owners = Some(areas);
+        self.owners = Some(areas(self.heap, numbers)?);
         Ok(())
     }
 
@@ -77,9 +78,7 @@ impl Draft {
         if self.charge.is_some() {
             return Err(Stop::Wrong(Wrong::Repeated));
         }
-        let setting = setting(numbers)?;
-        let charge = charge_named(kind, setting)?;
-        self.charge = Some(charge);
+        self.charge = Some(charge_named(kind, only(numbers)?)?);
         Ok(())
     }
 
@@ -92,30 +91,7 @@ impl Draft {
         if self.layers.len() >= 3 {
             return Err(Stop::Wrong(Wrong::FourthLayer));
         }
-        let layer = layer(numbers)?;
-        self.layers.push(layer)?;
-        Ok(())
-    }
-
-    pub(crate) fn set_journal(&mut self, numbers: &[Number]) -> Result<(), Stop>
-        ensures { Changes result (draft_of self.new) (with_journal (draft_of self.old) numbers.now) }
-    {
-        if self.journal.is_some() {
-            return Err(Stop::Wrong(Wrong::Repeated));
-        }
-        let room = room(numbers)?;
-        self.journal = Some(room);
-        Ok(())
-    }
-
-    pub(crate) fn set_roll(&mut self, numbers: &[Number]) -> Result<(), Stop>
-        ensures { Changes result (draft_of self.new) (with_roll (draft_of self.old) numbers.now) }
-    {
-        if self.roll.is_some() {
-            return Err(Stop::Wrong(Wrong::Repeated));
-        }
-        let room = room(numbers)?;
-        self.roll = Some(room);
+        self.layers.push(layer(numbers)?)?;
         Ok(())
     }
 
@@ -124,6 +100,7 @@ impl Draft {
         ensures { told meant_by result ≡ finished (draft_of self) }
     {
         let Draft {
+            heap: _,
             owners,
             charge,
             layers,
@@ -131,19 +108,24 @@ impl Draft {
             roll,
             calls,
         } = self;
-        let Some(areas) = owners else {
-            return Err(Wrong::NoOwners);
-        };
-        let Some(charge) = charge else {
-            return Err(Wrong::NoCharge);
-        };
         Ok(Script {
-            areas,
-            charge,
+            areas: owners.ok_or(Wrong::NoOwners)?,
+            charge: charge.ok_or(Wrong::NoCharge)?,
             layers,
             journal: journal.unwrap_or(8192),
             roll: roll.unwrap_or(2427),
             calls,
         })
     }
+}
+
+// The room of a journal or a roll, which is given once.
+pub(crate) fn set_room(slot: &mut Option<u16>, numbers: &[Number]) -> Result<(), Wrong>
+    ensures { told (λ _. slot.new) result ≡ with_room slot.old numbers.now }
+{
+    if slot.is_some() {
+        return Err(Wrong::Repeated);
+    }
+    *slot = Some(only(numbers)?);
+    Ok(())
 }

@@ -1,5 +1,6 @@
 // Why a script cannot be read.
 ghost use Rattle.std.specs.Prelude.{◌≡◌};
+ghost use Rattle.script.specs.Scripts.{unread_at};
 ghost use Rattle.script.specs.declared.fault.Stop.TheVariants.{Memory, Wrong as stopped};
 
 use std::alloc::{AllocError, AllocFailed};
@@ -44,6 +45,18 @@ pub enum Unread {
 pub(crate) enum Stop {
     Wrong(Wrong),
     Memory,
+}
+
+impl Stop {
+    // What a line meets, told with its number.
+    pub(crate) fn at_line(self, line: usize) -> Unread
+        ensures { result ≡ unread_at line self }
+    {
+        match self {
+            Stop::Wrong(wrong) => Unread::Line { line, wrong },
+            Stop::Memory => Unread::Memory,
+        }
+    }
 }
 
 impl From<Wrong> for Stop {

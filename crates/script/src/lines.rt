@@ -1,124 +1,110 @@
 // A script read line by line.
-ghost use Rattle.std.specs.Prelude.{◌≡◌};
+ghost use Rattle.std.specs.Prelude.{◌≡◌, ◌+◌, length};
 ghost use Rattle.script.specs.Answers.{Changes};
 ghost use Rattle.script.specs.Commands.{and_then, told, said_by, call_said};
 ghost use Rattle.script.specs.Drafts.{draft_of, still_open, set_up_by, call_by, line_taken};
-ghost use Rattle.script.specs.Scripts.{ReadAs, script_in, unread_at};
-ghost use Rattle.script.specs.Texts.{words_of};
-ghost use Rattle.script.specs.declared.command.Command.TheVariants.{Charge};
+ghost use Rattle.script.specs.Cuts.{words_left};
+ghost use Rattle.script.specs.Scripts.{ReadAs, script_in};
+ghost use Rattle.script.specs.Texts.{lines_of, words_of};
+ghost use Rattle.script.specs.declared.command.Part.TheVariants.{Charge};
 
-use crate::calls::{file_call, open_call, post_call, read_call, state_call, withdraw_call};
-use crate::command::{Command, command_named};
-use crate::draft::Draft;
+use crate::calls::{file_call, only, opening, read_call};
+use crate::command::{Asked, Command, Part, command_named};
+use crate::draft::{Draft, set_room};
 use crate::fault::{Stop, Unread, Wrong};
 use crate::number::Number;
 use crate::script::Script;
-use crate::words::{first_line, first_word, read_numbers};
+use crate::words::{Lines, Words, read_numbers};
 use book::Call;
 use std::alloc::Global;
 
-// The call that a command and its numbers write.
-fn call_of(command: Command, numbers: &[Number]) -> Result<Call, Wrong>
-    ensures { told said_by result ≡ call_said command numbers.now }
+// The call that is asked with these numbers.
+fn call_of(asked: Asked, numbers: &[Number]) -> Result<Call, Wrong>
+    ensures { told said_by result ≡ call_said asked numbers.now }
 {
-    match command {
-        Command::File => file_call(numbers),
-        Command::Read => read_call(numbers),
-        Command::Open => open_call(numbers),
-        Command::Post => post_call(numbers),
-        Command::Withdraw => withdraw_call(numbers),
-        Command::State => state_call(numbers),
-        _ => Err(Wrong::UnknownCommand),
+    match asked {
+        Asked::File => file_call(numbers),
+        Asked::Read => read_call(numbers),
+        Asked::Open => Ok(Call::Open {
+            month: only(numbers)?,
+        }),
+        Asked::Post => Ok(Call::Post(opening(numbers)?)),
+        Asked::Withdraw => Ok(Call::Withdraw(opening(numbers)?)),
+        Asked::State => Ok(Call::State {
+            month: only(numbers)?,
+        }),
     }
 }
 
 impl Draft {
     // Takes the charge in: its kind, and then its setting.
-    fn take_charge(&mut self, heap: Global, line: &[u8]) -> Result<(), Stop>
-        ensures { Changes result (draft_of self.new) (set_up_by (draft_of self.old) Charge (words_of line.now)) }
+    fn take_charge(&mut self, mut words: Words<'_>) -> Result<(), Stop>
+        ensures { Changes result (draft_of self.new) (set_up_by (draft_of self.old) Charge (words_left words.entry)) }
     {
-        let (kind, rest) = first_word(line);
-        let numbers = read_numbers(heap, rest)?;
-        self.set_charge(kind, &numbers)
+        let kind = words.next().unwrap_or(&[]);
+        self.set_charge(kind, &read_numbers(self.heap, words)?)
     }
 
-    // Takes a set-up command in, with the words behind it.
-    fn take_set_up(&mut self, heap: Global, command: Command, line: &[u8]) -> Result<(), Stop>
-        ensures { Changes result (draft_of self.new) (and_then (still_open (draft_of self.old)) (λ _. set_up_by (draft_of self.old) command (words_of line.now))) }
+    // Takes a part of the set-up in, with the words behind it.
+    fn take_set_up(&mut self, part: Part, words: Words<'_>) -> Result<(), Stop>
+        ensures { Changes result (draft_of self.new) (and_then (still_open (draft_of self.old)) (λ _. set_up_by (draft_of self.old) part (words_left words.entry))) }
     {
         self.set_up_is_open()?;
-        if let Command::Charge = command {
-            return self.take_charge(heap, line);
-        }
-        let numbers = read_numbers(heap, line)?;
-        match command {
-            Command::Owners => self.set_owners(heap, &numbers),
-            Command::Layer => self.add_layer(&numbers),
-            Command::Journal => self.set_journal(&numbers),
-            Command::Roll => self.set_roll(&numbers),
-            _ => Err(Stop::Wrong(Wrong::UnknownCommand)),
+        match part {
+            Part::Owners => self.set_owners(&read_numbers(self.heap, words)?),
+            Part::Charge => self.take_charge(words),
+            Part::Layer => self.add_layer(&read_numbers(self.heap, words)?),
+            Part::Journal => Ok(set_room(&mut self.journal, &read_numbers(self.heap, words)?)?),
+            Part::Roll => Ok(set_room(&mut self.roll, &read_numbers(self.heap, words)?)?),
         }
     }
 
-    // Takes a call in, with the words behind its command.
-    fn take_call(&mut self, heap: Global, command: Command, line: &[u8]) -> Result<(), Stop>
-        ensures { Changes result (draft_of self.new) (call_by (draft_of self.old) command (words_of line.now)) }
+    // Takes a call in, with the words behind it.
+    fn take_call(&mut self, asked: Asked, words: Words<'_>) -> Result<(), Stop>
+        ensures { Changes result (draft_of self.new) (call_by (draft_of self.old) asked (words_left words.entry)) }
     {
         self.set_up_is_done()?;
-        let numbers = read_numbers(heap, line)?;
-        let call = call_of(command, &numbers)?;
-        self.calls.push(call)?;
+        let numbers = read_numbers(self.heap, words)?;
+        self.calls.push(call_of(asked, &numbers)?)?;
         Ok(())
     }
 
     // Takes a line in; one without words, or that begins with #, says nothing.
-    fn take(&mut self, heap: Global, line: &[u8]) -> Result<(), Stop>
+    fn take(&mut self, line: &[u8]) -> Result<(), Stop>
         ensures { Changes result (draft_of self.new) (line_taken (draft_of self.old) (words_of line.now)) }
     {
-        let (word, rest) = first_word(line);
-        if word.is_empty() || word[0] == b'#' {
+        let mut words = Words { line };
+        let Some(word) = words.next() else {
+            return Ok(());
+        };
+        if let [b'#', ..] = word {
             return Ok(());
         }
-        let Some(command) = command_named(word) else {
-            return Err(Stop::Wrong(Wrong::UnknownCommand));
-        };
-        if command.sets_up() {
-            return self.take_set_up(heap, command, rest);
+        match command_named(word).ok_or(Wrong::UnknownCommand)? {
+            Command::SetUp(part) => self.take_set_up(part, words),
+            Command::Call(asked) => self.take_call(asked, words),
         }
-        self.take_call(heap, command, rest)
     }
 }
 
-// What a line meets, told with its number.
-fn at_line(line: usize, stop: Stop) -> Unread
-    ensures { result ≡ unread_at line stop }
+// The number of the line that would stand behind the last.
+fn line_behind(text: &[u8]) -> usize
+    ensures { result ≡ length (lines_of text.now) + 1 }
 {
-    match stop {
-        Stop::Wrong(wrong) => Unread::Line { line, wrong },
-        Stop::Memory => Unread::Memory,
-    }
+    Lines { text }.count() + 1
 }
 
-// The script that a text writes, or the first of its lines that cannot be read.
+// The script that a text writes, or the first of its lines that cannot be read; what it lacks in all is told behind
+// the last.
 pub fn read_script(heap: Global, text: &[u8]) -> Result<Script, Unread>
     ensures { ReadAs result (script_in text.now) }
 {
     let mut draft = Draft::new(heap);
-    let mut number: usize = 1;
-    let mut rest = text;
-    while !rest.is_empty() {
-        let (line, after) = first_line(rest);
-        if let Err(stop) = draft.take(heap, line) {
-            return Err(at_line(number, stop));
-        }
-        number += 1;
-        rest = after;
+    for (i, line) in (Lines { text }).enumerate() {
+        draft.take(line).map_err(|stop| stop.at_line(i + 1))?;
     }
-    match draft.finish() {
-        Ok(script) => Ok(script),
-        Err(wrong) => Err(Unread::Line {
-            line: number,
-            wrong,
-        }),
-    }
+    draft.finish().map_err(|wrong| Unread::Line {
+        line: line_behind(text),
+        wrong,
+    })
 }

@@ -1,73 +1,87 @@
-// Lines cut into words, which are parted by spaces alone.
-ghost use Rattle.std.specs.Prelude.{◌≡◌, ◌+◌, ◌<◌, ◌≤◌, [], ◌∷◌, length, vec_items};
+// Texts cut into lines, and lines into words, which are parted by spaces alone.
+ghost use Rattle.std.specs.Prelude.{◌≡◌, ◌==◌, vec_items};
+ghost use Rattle.std.specs.List.{before_first, after_first};
 ghost use Rattle.script.specs.Answers.{Says};
+ghost use Rattle.script.specs.Cuts.{words_left};
 ghost use Rattle.script.specs.Numbers.{numbers_of};
-ghost use Rattle.script.specs.Texts.{before, leading, words_of, ended, lines_of};
 
 use crate::fault::{Stop, Wrong};
 use crate::number::{Number, read_number};
 use std::alloc::Global;
 
-// How many bytes stand before the first of this value.
-fn until(text: &[u8], byte: u8) -> usize
-    ensures value { result ≡ before byte text.now }
-    ensures within { result ≤ length text.now }
+// The bytes before the first of this value, and those behind it.
+fn split_once(text: &[u8], byte: u8) -> (&[u8], &[u8])
+    ensures front { result.0.now ≡ before_first (λ b. b == byte) text.now }
+    ensures back { result.1.now ≡ after_first (λ b. b == byte) text.now }
 {
-    for (i, b) in text.iter().enumerate() {
-        if *b == byte {
-            return i;
+    match text.iter().position(|b| *b == byte) {
+        Some(at) => (&text[..at], &text[at + 1..]),
+        None => (text, &[]),
+    }
+}
+
+// The words of a line that are left.
+#[derive(Clone, Copy)]
+pub(crate) struct Words<'a> {
+    pub(crate) line: &'a [u8],
+}
+
+impl<'a> Iterator for Words<'a> {
+    ghost use Rattle.std.specs.Iterator.{YieldsFirstRef, item_count};
+    ghost use Rattle.script.specs.Cuts.{words_left};
+
+    type Item = &'a [u8];
+
+    ghost next_gives = { YieldsFirstRef words_left };
+
+    ghost remaining = { item_count words_left };
+
+    fn next(&mut self) -> Option<&'a [u8]> {
+        while !self.line.is_empty() {
+            let (word, rest) = split_once(self.line, b' ');
+            self.line = rest;
+            if !word.is_empty() {
+                return Some(word);
+            }
         }
+        None
     }
-    text.len()
 }
 
-// How many spaces stand in front.
-fn spaces(text: &[u8]) -> usize
-    ensures value { result ≡ leading text.now }
-    ensures within { result ≤ length text.now }
-{
-    for (i, b) in text.iter().enumerate() {
-        if *b != b' ' {
-            return i;
+// The lines of a text that are left, each without its line feed.
+#[derive(Clone, Copy)]
+pub(crate) struct Lines<'a> {
+    pub(crate) text: &'a [u8],
+}
+
+impl<'a> Iterator for Lines<'a> {
+    ghost use Rattle.std.specs.Iterator.{YieldsFirstRef, item_count};
+    ghost use Rattle.script.specs.Cuts.{lines_left};
+
+    type Item = &'a [u8];
+
+    ghost next_gives = { YieldsFirstRef lines_left };
+
+    ghost remaining = { item_count lines_left };
+
+    fn next(&mut self) -> Option<&'a [u8]> {
+        if self.text.is_empty() {
+            return None;
         }
+        let (line, rest) = split_once(self.text, b'\n');
+        self.text = rest;
+        Some(line)
     }
-    text.len()
 }
 
-// The first word, and what stands behind it; an empty word where there is none.
-pub(crate) fn first_word(line: &[u8]) -> (&[u8], &[u8])
-    ensures words { words_of line.now ≡ ended result.0.now (words_of result.1.now) }
-    ensures none { length result.0.now ≡ 0 → words_of line.now ≡ [] }
-    ensures shorter { length result.0.now + length result.1.now ≤ length line.now }
-{
-    let from = &line[spaces(line)..];
-    from.split_at(until(from, b' '))
-}
-
-// The first line, without its line feed, and what stands behind it.
-pub(crate) fn first_line(text: &[u8]) -> (&[u8], &[u8])
-    ensures lines { 0 < length text.now → lines_of text.now ≡ result.0.now ∷ lines_of result.1.now }
-    ensures shorter { 0 < length text.now → length result.1.now < length text.now }
-{
-    let end = until(text, b'\n');
-    if end == text.len() {
-        return (text, &text[end..]);
-    }
-    (&text[0..end], &text[end + 1..])
-}
-
-// The words of a line as numbers.
-pub(crate) fn read_numbers(heap: Global, line: &[u8]) -> Result<Vec<Number>, Stop>
-    ensures { Says vec_items result (numbers_of (words_of line.now)) }
+// The words that are left as numbers.
+pub(crate) fn read_numbers(heap: Global, words: Words<'_>) -> Result<Vec<Number>, Stop>
+    ensures { Says vec_items result (numbers_of (words_left words.entry)) }
 {
     let mut numbers = Vec::new(heap);
-    let (mut word, mut rest) = first_word(line);
-    while !word.is_empty() {
-        let Some(number) = read_number(word) else {
-            return Err(Stop::Wrong(Wrong::NoNumber));
-        };
+    for word in words {
+        let number = read_number(word).ok_or(Wrong::NoNumber)?;
         numbers.push(number)?;
-        (word, rest) = first_word(rest);
     }
     Ok(numbers)
 }

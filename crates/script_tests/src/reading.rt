@@ -7,10 +7,7 @@ use std::test::Fail;
 
 // What is wrong with a script, if anything is.
 pub(crate) fn fault(heap: Global, text: &str) -> Option<Unread> {
-    match read_script(heap, text.as_bytes()) {
-        Ok(_) => None,
-        Err(unread) => Some(unread),
-    }
+    read_script(heap, text.as_bytes()).err()
 }
 
 // What is wrong with a call that stands in the third line.
@@ -193,7 +190,7 @@ fn calls_as_they_are_written(rt: HostRuntime) -> Result<(), Fail> {
     let text = b"owners 0\ncharge volumetric 8\nfile 1 2 3 -4 5 6 7\nread 8 9 10 11\npost 12 13\n";
     let script = read_script(rt.alloc(), text)?;
     assert!(rt; script.calls.len() == 3);
-    if let Call::File {
+    let Call::File {
         owner,
         first,
         last,
@@ -202,27 +199,24 @@ fn calls_as_they_are_written(rt: HostRuntime) -> Result<(), Fail> {
         load,
         peak,
     } = script.calls[0]
-    {
-        assert!(rt; owner == 1 && first == 2 && last == 3 && ehv == -4);
-        assert!(rt; nhv == 5 && load == 6 && peak == 7);
-    } else {
+    else {
         return Err(Fail::new("no filing"));
-    }
-    if let Call::Read {
+    };
+    assert!(rt; owner == 1 && first == 2 && last == 3 && ehv == -4);
+    assert!(rt; nhv == 5 && load == 6 && peak == 7);
+    let Call::Read {
         month,
         owner,
         load,
         peak,
     } = script.calls[1]
-    {
-        assert!(rt; month == 8 && owner == 9 && load == 10 && peak == 11);
-    } else {
+    else {
         return Err(Fail::new("no reading"));
-    }
-    if let Call::Post(written) = script.calls[2] {
-        assert!(rt; written.month() == 12 && written.count() == 13);
-        Ok(())
-    } else {
-        Err(Fail::new("no posting"))
-    }
+    };
+    assert!(rt; month == 8 && owner == 9 && load == 10 && peak == 11);
+    let Call::Post(written) = script.calls[2] else {
+        return Err(Fail::new("no posting"));
+    };
+    assert!(rt; written.month() == 12 && written.count() == 13);
+    Ok(())
 }

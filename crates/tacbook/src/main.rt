@@ -19,8 +19,7 @@ enum Task {
 
 // The task that the arguments name.
 fn asked(rt: &HostRuntime) -> anyhow::Result<Task> {
-    let mut words = env::args(rt)?;
-    let _ = words.next();
+    let mut words = env::args(rt)?.skip(1);
     let Some(word) = words.next() else {
         return Ok(Task::Run { archive: None });
     };

@@ -1,4 +1,4 @@
-use Rattle.std.proofs.Common.{◌≡◌, ◌≤◌, length, drop, replicate}
+use Rattle.std.proofs.Common.{◌≡◌, length, drop, replicate}
 use Rattle.script.specs.Drafts.{caps_from}
 use Rattle.script.proofs.calls.caps.Given as goal
 
