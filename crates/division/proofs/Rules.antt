@@ -7,7 +7,7 @@ use Rattle.std.proofs.lemmas.Bool.{cases_lt}
 use Rattle.division.specs.Shares.{total, int_sum}
 use Rattle.division.specs.Laws.{Divides, UnitOff}
 use Rattle.division.proofs.Totals.{int_sum-none, weight-le-total}
-use Rattle.division.proofs.Units.{off-le-weight, off-none, off-not-negative, off-not-positive, off-magnitude, off-fits}
+use Rattle.division.proofs.Units.{off-le-weight, off-none, off-magnitude, off-fits}
 
 module _ (rule : ℤ → List ℕ → List ℤ) (laws : Divides rule) (sum : ℤ) (weights : List ℕ) (k : ℕ) where
   -- past the last owner there is no share
@@ -24,12 +24,6 @@ module _ (rule : ℤ → List ℕ → List ℤ) (laws : Divides rule) (sum : ℤ
       (cases_lt 0 (total weights)))
       (λ l. rw (share-past l) none)
       (cases_lt k (length weights))
-
-  pub share-not-negative : pos 0 ≤ℤ sum → pos 0 ≤ℤ get_or (rule sum weights) k (pos 0)
-  share-not-negative h = by-share (λ share. pos 0 ≤ℤ share) (omega (arith, ints)) (λ share off l. off-not-negative sum (total weights) (get_or weights k 0) share off h)
-
-  pub share-not-positive : sum ≤ℤ pos 0 → get_or (rule sum weights) k (pos 0) ≤ℤ pos 0
-  share-not-positive h = by-share (λ share. share ≤ℤ pos 0) (omega (arith, ints)) (λ share off l. off-not-positive sum (total weights) (get_or weights k 0) share off h)
 
   -- no share is larger than the sum, whatever the signs
   pub share-magnitude : nat_abs (get_or (rule sum weights) k (pos 0)) ≤ nat_abs sum

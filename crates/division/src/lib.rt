@@ -57,6 +57,7 @@ pub fn worked_figures() -> u8
 }
 
 // All the weights together, or nothing where that passes the largest total weight.
+// As it is: tried as try_fold over checked sums, where no proof is found of when it gives nothing.
 fn total_weight(weights: &[u64]) -> Option<u64>
     ensures { SomeIff result (total weights.now ≤ most_weight) (total weights.now) }
 {
@@ -71,6 +72,7 @@ fn total_weight(weights: &[u64]) -> Option<u64>
 }
 
 // Each share is the owner's running figure less the one before it.
+// As it is: tried as a zip of iter_mut with the weights, after which nothing is known of the places.
 fn write_shares(sum: i64, all: u64, weights: &[u64], out: &mut [i64])
     requires lengths { length weights.now ≡ length out.old }
     requires total { all ≡ total weights.now }

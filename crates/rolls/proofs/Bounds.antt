@@ -20,8 +20,5 @@ sum_bound month owner (r ∷ rows) h =
     let own = h.0.4 in
     grind (arith, ints)
 
-pub count-bound : (month owner : ℕ) (rows : List Row) → count_of month owner rows ≤ length rows
-count-bound month owner rows = count_by-le-length (of month owner) rows
-
 pub room-left : (s : Sums) (rows : List Row) → Tallied s rows → AllByRecursion WithinRow rows → length rows ≤ 2426 → Room s
-room-left s rows t within few = record { sums = λ m o hm ho. rw (t.sums m o hm ho, sum-or_none m o rows) (omega (arith, sum_bound m o rows within, count-bound m o rows)) }
+room-left s rows t within few = record { sums = λ m o hm ho. rw (t.sums m o hm ho, sum-or_none m o rows) (omega (arith, sum_bound m o rows within, count_by-le-length (of m o) rows)) }

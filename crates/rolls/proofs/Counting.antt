@@ -48,11 +48,6 @@ pub record Counted (bs : List ℕ) (place : ℕ) (left : List ℕ) (s : Sums) : 
   pub sums : Tallied s rows
   pub whole : contents bs ≡ after rows (contents_from (length bs - place) place left)
 
-pub counted_none : (bs : List ℕ) (s : Sums) → Tallied s [] → Counted bs 0 bs s
-counted_none bs s t =
-    let all : length bs - 0 ≡ length bs = omega arith in
-    record { rows = []; many = refl; long = omega arith; within = tt; sums = t; whole = sym (ap (λ n. after [] (contents_from n 0 bs)) all) }
-
 contents-step : (n place : ℕ) (xs : List ℕ) → 0 < n → 0 < length xs → contents_from n place xs ≡ grown (reading place xs) (contents_from (n - 1) (place + 1) (drop 27 xs))
 contents-step zero place xs p q = absurd (omega arith)
 contents-step (suc n) place [] p q = absurd (omega arith)

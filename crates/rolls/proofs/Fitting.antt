@@ -1,10 +1,11 @@
 -- The text of a summary fits its page.
-use Rattle.std.proofs.Common.{◌≡◌, ℕ, zero, suc, ◌+◌, ◌*◌, ◌^◌, ◌<◌, ◌≤◌, Bool, true, false, cond, ◌&&◌, eqb, ltb, List, [], ◌∷◌, ◌++◌, length, get_or, take, drop, ℤ, pos, negsuc, nat_abs, Some, None, codes, sym, refl, ap, ◌∙◌, arith, take-append-drop}
+use Rattle.std.proofs.Common.{◌≡◌, ℕ, zero, suc, ◌+◌, ◌*◌, ◌^◌, ◌<◌, ◌≤◌, Bool, true, false, cond, ◌&&◌, eqb, ltb, List, [], ◌∷◌, ◌++◌, length, length-append, get_or, take, drop, ℤ, nat_abs, Some, None, codes, sym, refl, ap, ◌∙◌, arith, take-append-drop}
 use lib.Signed.{mag}
 use Rattle.std.specs.List.{AllByRecursion}
 use Rattle.std.proofs.lemmas.Fmt.{length-decimal-le, length_signed_le}
-use Rattle.std.proofs.lemmas.List.Sums.{sum_by-cons}
-use Rattle.std.proofs.lemmas.Bool.{lt-ltb, le-ltb}
+use Rattle.std.proofs.lemmas.List.Sums.{sum_by-cons, count_by-le-length}
+use Rattle.std.proofs.lemmas.Int.{ints}
+use Rattle.std.proofs.lemmas.Bool.{lt-ltb}
 use Rattle.std.proofs.lemmas.Bool.Decides.{nat_tests}
 use Rattle.rolls.specs.Rows.{Row, WithinRow}
 use Rattle.rolls.specs.Summaries.{of, sum_of, count_of, pair_text, pair_line, pair_lines, month_lines, up_to, closing, contents, page_text, summary_text}
@@ -12,11 +13,10 @@ use Rattle.rolls.specs.Meaning.{refusal}
 use Rattle.rolls.specs.Pages.{Fits, Lays}
 use Rattle.rolls.specs.Tallies.{Tallied, sum_at, sum_line, month_sums, all_sums}
 use Rattle.rolls.specs.declared.fault.ArchiveFault.{ArchiveFault}
-use Rattle.rolls.specs.declared.fault.ArchiveFault.TheVariants.{Short, Heading, Value}
 use Rattle.rolls.specs.declared.page.Page.{Page}
 use Rattle.rolls.specs.declared.sums.Sums.{Sums}
-use Rattle.rolls.proofs.Bounds.{sum_bound, count-bound}
-use Rattle.rolls.proofs.Writing.{length-pair_text, up_to-none, up_to-same, length-up_to, length-ended, length-stopped}
+use Rattle.rolls.proofs.Bounds.{sum_bound}
+use Rattle.rolls.proofs.Writing.{length-pair_text, up_to-same, length-up_to}
 
 -- the sum of a function below n
 sum_to : ℕ → (ℕ → ℕ) → ℕ
@@ -76,8 +76,7 @@ pairs-bound (r ∷ rows) =
     omega (arith, sum_to-add 360 (λ m. cond (eqb r.month m) 1 0) (λ m. sum_to 16 (λ o. count_of m o rows)), sum_to-point r.month 360, at_most_one (ltb r.month 360), pairs-bound rows)
 
 mag-le : (z : ℤ) → mag z ≤ nat_abs z
-mag-le (pos n) = omega arith
-mag-le (negsuc n) = omega arith
+mag-le z = grind (arith, ints)
 
 -- a line's length, by the digits of its sum
 length-line : (digits month owner : ℕ) (z : ℤ) → month < 360 → owner < 16 → nat_abs z + 1 < 10 ^ digits → nat_abs z < 2 ^ 63 → length (pair_text month owner z) ≤ 9 + digits
@@ -99,15 +98,15 @@ text-length (suc (suc n)) month owner z hm ho bound few =
     rw some (omega (arith, length-line 19 month owner z hm ho (omega arith) (omega arith)))
 
 length-row : (n : ℕ) (f : ℕ → List ℕ) (g : ℕ → ℕ) → ((k : ℕ) → k < n → length (f k) ≤ 24 * g k) → length (up_to n f) ≤ 24 * sum_to n g
-unfolding sum_to
-length-row zero f g h = omega (arith, ap length (up_to-none f))
+unfolding sum_to up_to
+length-row zero f g h = omega arith
 length-row (suc n) f g h = omega (arith, length-up_to n f, length-row n f g (λ k lt. h k (omega arith)), h n (omega arith))
 
 pub length-pair_lines : (rows : List Row) → AllByRecursion WithinRow rows → length rows ≤ 2427 → length (pair_lines rows) ≤ 24 * length rows
 unfolding pairs
 length-pair_lines rows within few =
     let line : (m o : ℕ) → m < 360 → o < 16 → length (pair_line rows m o) ≤ 24 * count_of m o rows =
-    λ m o hm ho. text-length (count_of m o rows) m o (sum_of m o rows) hm ho (sum_bound m o rows within) (omega (arith, count-bound m o rows)) in
+    λ m o hm ho. text-length (count_of m o rows) m o (sum_of m o rows) hm ho (sum_bound m o rows within) (omega (arith, count_by-le-length (of m o) rows)) in
     let month : (m : ℕ) → m < 360 → length (month_lines rows m) ≤ 24 * sum_to 16 (λ o. count_of m o rows) = λ m hm. length-row 16 (pair_line rows m) (λ o. count_of m o rows) (λ o ho. line m o hm ho) in
     omega (arith, length-row 360 (month_lines rows) (λ m. sum_to 16 (λ o. count_of m o rows)) month, pairs-bound rows)
 
@@ -138,16 +137,16 @@ module _ (p q : Page) (begins : p.end ≡ 0) (long : length p.bytes.now ≡ 6553
     closing-fits r text sums short = omega (arith, sums-fit, ap length (all_sums-are s rows t), length-pair_lines rows within few, heading.end, heading.long, sums.end, sums.long)
 
 pub short-archive : (bs : List ℕ) → length bs ≤ 65529 → summary_text bs ≡ page_text (contents bs)
-short-archive bs h = let short : ltb 65529 (length bs) ≡ false = le-ltb 65529 (length bs) h in ap (λ b. cond b (codes "too long\n") (page_text (contents bs))) short
+short-archive bs h = grind (arith, nat_tests)
 
 pub length-closing-ended : (n : ℕ) → n < 2 ^ 64 → length (closing n None) ≤ 29
-length-closing-ended n h = omega (arith, length-ended n, length-decimal-le 20 n (omega arith) (omega arith) h)
+length-closing-ended n h = simp length-append (omega (arith, length-decimal-le 20 n (omega arith) (omega arith) h))
 
 number_small : (e : ArchiveFault) → (refusal e).number < 100
-number_small (Short place) = omega arith
-number_small (Heading place) = omega arith
-number_small (Value place) = omega arith
+number_small e = grind arith
 
 pub length-closing-stopped : (e : ArchiveFault) → (refusal e).place < 2 ^ 64 → length (closing 0 (Some (refusal e))) ≤ 29
 length-closing-stopped e h =
-    omega (arith, length-stopped (refusal e), length-decimal-le 20 (refusal e).place (omega arith) (omega arith) h, length-decimal-le 2 (refusal e).number (omega arith) (omega (arith, number_small e)) (omega (arith, number_small e)))
+    let place = length-decimal-le 20 (refusal e).place (omega arith) (omega arith) h in
+    let number = length-decimal-le 2 (refusal e).number (omega arith) (omega (arith, number_small e)) (omega (arith, number_small e)) in
+    simp length-append (omega (arith, place, number))

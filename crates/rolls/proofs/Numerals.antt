@@ -7,16 +7,13 @@ use Rattle.std.proofs.lemmas.List.{length_push, take_more}
 use Rattle.std.specs.List.{AllByRecursion}
 use Rattle.rolls.specs.Numerals.{bytes_of, number}
 
-power-above : (w : ℕ) → 0 < 256 ^ w
-power-above w = one-le-pow w 256 (omega arith)
-
 -- what stands above the last bytes does not change them
 bytes_of-above : (w c n : ℕ) → bytes_of w (c * 256 ^ w + n) ≡ bytes_of w n
 bytes_of-above zero c n = refl
 bytes_of-above (suc w) c n =
     let up : c * 256 ^ suc w ≡ c * 256 * 256 ^ w = ap (λ x. c * x) (pow-suc 256 w ∙ mul_comm (256 ^ w) 256) ∙ sym (mul_assoc c 256 (256 ^ w)) in
     let head : (c * 256 * 256 ^ w + n) / 256 ^ w % 256 ≡ n / 256 ^ w % 256 =
-    ap (λ x. x % 256) (mul-add-div_right (power-above w) (c * 256) n) ∙ mul-add-mod_self_right c 256 (n / 256 ^ w) in
+    ap (λ x. x % 256) (mul-add-div_right (one-le-pow w 256 (omega arith)) (c * 256) n) ∙ mul-add-mod_self_right c 256 (n / 256 ^ w) in
     rw up (ap (λ b. b ∷ bytes_of w (c * 256 * 256 ^ w + n)) head ∙ ap (λ bs. n / 256 ^ w % 256 ∷ bs) (bytes_of-above w (c * 256) n))
 
 pub number-below : (bs : List ℕ) → AllByRecursion (λ b. b < 256) bs → number bs < 256 ^ length bs
@@ -31,10 +28,7 @@ bytes_of-number (b ∷ bs) h =
     ap (λ x. x ∷ bytes_of (length bs) (b * 256 ^ length bs + number bs)) first
     ∙ ap (λ xs. b ∷ xs) (bytes_of-above (length bs) b (number bs) ∙ bytes_of-number bs h.1)
 
-pub all-bytes : (bs : List ℕ) → ((i : ℕ) → get_or bs i 0 < 256) → AllByRecursion (λ b. b < 256) bs
-all-bytes bs h = All-from_get_or (λ b. b < 256) bs 0 (λ i _. h i)
-
-pub number_push : (bs : List ℕ) (b : ℕ) → number (bs ++ b ∷ []) ≡ number bs * 256 + b
+number_push : (bs : List ℕ) (b : ℕ) → number (bs ++ b ∷ []) ≡ number bs * 256 + b
 number_push [] b = omega arith
 number_push (x ∷ bs) b =
     let long : length (bs ++ b ∷ []) ≡ suc (length bs) = length_push bs b ∙ add-one (length bs) in
@@ -48,6 +42,6 @@ number_more bs i h = ap number (take_more bs i 0 h) ∙ number_push (take i bs) 
 pub number-take-below : (bs : List ℕ) (i w : ℕ) → ((k : ℕ) → get_or bs k 0 < 256) → i ≤ w → number (take i bs) < 256 ^ w
 number-take-below bs i w h le =
     let short : length (take i bs) ≤ w = simp length-take (omega arith) in
-    let low = number-below (take i bs) (All-take (λ b. b < 256) i bs (all-bytes bs h)) in
+    let low = number-below (take i bs) (All-take (λ b. b < 256) i bs (All-from_get_or (λ b. b < 256) bs 0 (λ k _. h k))) in
     let high : 256 ^ length (take i bs) ≤ 256 ^ w = pow-le-pow_right (omega arith) short in
     omega arith

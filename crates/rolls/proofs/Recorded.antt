@@ -1,5 +1,5 @@
 -- Archives as lists of rows, and back.
-use Rattle.std.proofs.Common.{◌≡◌, ℕ, zero, suc, ◌+◌, ◌-◌, ◌*◌, ◌<◌, ◌≤◌, List, [], ◌∷◌, ◌++◌, length, take, drop, Some, Ok, Err, Result, sym, refl, ap, ◌∙◌, subst, append_assoc, arith, rules, length-append, take-append-drop}
+use Rattle.std.proofs.Common.{◌≡◌, ℕ, zero, suc, ◌+◌, ◌-◌, ◌*◌, ◌<◌, ◌≤◌, List, [], ◌∷◌, ◌++◌, length, take, drop, Some, Ok, Result, sym, refl, ap, ◌∙◌, subst, append_assoc, arith, rules, length-append}
 use borrow.Rule.Slice.PartMut.{put_mid}
 use lib.Seq.{paste}
 use Rattle.std.specs.List.{AllByRecursion, slice_get}
@@ -105,12 +105,6 @@ module _ (n : ℕ) (xs : List ℕ) (x : Row) (lines : take (n * 27) xs ≡ archi
   pub more-untouched : more ≡ archived (rows_in (n + 1) more) ++ drop (length (archived (rows_in (n + 1) more))) xs
   more-untouched = laid ∙ ap (λ k. archived rows ++ drop k xs) (sym length-bytes) ∙ ap (λ rs. archived rs ++ drop (length (archived rs)) xs) (sym more_rows)
 
--- where nothing is added, nothing changes
-pub none-untouched : (n : ℕ) (xs : List ℕ) → n * 27 ≤ length xs → take (n * 27) xs ≡ archived (rows_in n xs) → xs ≡ archived (rows_in n xs) ++ drop (length (archived (rows_in n xs))) xs
-none-untouched n xs h lines =
-    let long : length (archived (rows_in n xs)) ≡ n * 27 = length-archived (rows_in n xs) ∙ ap (λ k. k * 27) (length-rows_in n xs) in
-    sym (ap (λ k. archived (rows_in n xs) ++ drop k xs) long ∙ ap (λ bs. bs ++ drop (n * 27) xs) (sym lines) ∙ take-append-drop (n * 27) xs)
-
 -- what an archive of n records is once x is laid behind them
 pub record Laid (n : ℕ) (xs : List ℕ) (x : Row) (ys : List ℕ) : Type 0 where
   pub fits : (n + 1) * 27 ≤ length ys
@@ -137,5 +131,4 @@ laid-behind n xs x part lines within fits room same =
 
 -- an answer that tells a row, as an option of a line
 pub told-some : (r : Result Line ArchiveFault) (x : Row) → told row r ≡ Ok x → option_map row (result_ok r) ≡ Some x
-told-some (Ok l) x e = cc
-told-some (Err f) x e = let z : ◌≡◌ {A = ℕ} 0 1 = cc in absurd (omega arith)
+told-some r x e = grind arith

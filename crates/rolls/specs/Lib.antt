@@ -9,3 +9,4 @@ pub mod ArchiveRolls
 pub mod Pages
 pub mod Summaries
 pub mod Tallies
+pub mod Texts

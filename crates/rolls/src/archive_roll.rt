@@ -10,6 +10,7 @@ use crate::roll::{MOST_LINES, Roll};
 // As it is: one generic type for both rolls is no plainer, since slots and bytes share only a count.
 #[derive(Drop)]
 pub struct ArchiveRoll<'a> {
+    // As it is: a rule of the project: no heap, so the bytes are lent, and how many records they hold stands beside them.
     bytes: &'a mut [u8],
     used: usize,
     ghost fits: { used * 27 ≤ length bytes.now },

@@ -3,6 +3,7 @@
 
 mod archive_roll;
 mod fault;
+mod field;
 mod line;
 mod page;
 mod record;
@@ -15,7 +16,7 @@ mod tally;
 pub use archive_roll::ArchiveRoll;
 pub use fault::{ArchiveFault, RollFault};
 pub use line::Line;
-pub use record::read_record;
+pub use record::{RECORD_LEN, read_record};
 pub use roll::Roll;
 pub use summaries::summary;
 pub use table_roll::TableRoll;

@@ -1,6 +1,8 @@
 // One line of a roll: an owner's bill for a month, or a correction of it.
 ghost use Rattle.rolls.specs.Rows.{Within};
 
+use std::fmt;
+
 // The limits of a line's figures.
 pub(crate) const LAST_MONTH: u16 = 359;
 
@@ -65,5 +67,23 @@ impl Line {
         ensures { result ≡ (row self.now).cents }
     {
         self.cents
+    }
+}
+
+impl fmt::Display for Line {
+    ghost use Rattle.std.specs.Prelude.{Some};
+    ghost use Rattle.rolls.specs.Meaning.{row};
+    ghost use Rattle.rolls.specs.Texts.{row_text};
+
+    ghost output = { λ l. Some (row_text (row l)) };
+
+    fn fmt<W: fmt::Write>(&self, f: &mut fmt::Formatter<W>) -> fmt::Result {
+        let Line {
+            month,
+            owner,
+            mark,
+            cents,
+        } = *self;
+        write!(f, "{month} {owner} {mark} {cents}")
     }
 }

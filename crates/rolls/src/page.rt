@@ -5,6 +5,7 @@ use itoa::{Buffer, Integer};
 
 #[derive(Drop)]
 pub(crate) struct Page<'a> {
+    // As it is: a rule of the project: no heap, so the page is lent, and where its text ends stands beside it.
     bytes: &'a mut [u8],
     // How many bytes are laid.
     pub(crate) end: usize,
@@ -24,6 +25,7 @@ impl<'a> Page<'a> {
     }
 
     // Text as it stands.
+    // As it is: a Result in place of the room that is required is no plainer: the page suffices, so no such error arises.
     pub(crate) fn text(&mut self, text: &[u8])
         requires { Fits self.old text.now }
         ensures { Lays self.old text.now self.new }

@@ -1,16 +1,14 @@
 // A line as the 27 bytes of its archive record, and back.
-ghost use Rattle.std.specs.Prelude.{◌≡◌, ◌-◌, ◌≤◌, [], ◌∷◌, length, take, IfOk, unsigned_abs};
-ghost use Rattle.std.specs.Int.{w64};
-ghost use Rattle.std.proofs.Common.{of_z, to_z};
+ghost use Rattle.std.specs.Prelude.{◌≡◌, take, IfOk};
 ghost use Rattle.rolls.specs.Meaning.{row, told};
-ghost use Rattle.rolls.specs.Numerals.{number, bytes_of};
-ghost use Rattle.rolls.specs.Records.{encoded, reading, held, answered, first_fault, head_check, field_checks, cents_checks, field_of, ReadsBack};
+ghost use Rattle.rolls.specs.Records.{encoded, reading, ReadsBack};
 
 use crate::fault::ArchiveFault;
-use crate::line::{LAST_MARK, LAST_MONTH, LAST_OWNER, Line, MOST_CENTS};
+use crate::field::Field;
+use crate::line::{LAST_MARK, LAST_MONTH, LAST_OWNER, Line};
 
 // The bytes of a record.
-pub(crate) const RECORD_LEN: usize = 27;
+pub const RECORD_LEN: usize = 27;
 
 impl Line {
     // The line's record in an archive.
@@ -18,72 +16,14 @@ impl Line {
         ensures bytes { result ≡ encoded (row self.now) }
         ensures reads_back { ReadsBack (row self.now) }
     {
-        let month = self.month.to_be_bytes();
-        let mark = u32::from(self.mark).to_be_bytes();
-        let cents = self.cents.to_be_bytes();
+        let [m0, m1] = self.month.to_be_bytes();
+        let [k0, k1, k2, k3] = u32::from(self.mark).to_be_bytes();
+        let [c0, c1, c2, c3, c4, c5, c6, c7] = self.cents.to_be_bytes();
         [
-            1, 0, 2, month[0], month[1], 2, 0, 1, self.owner, 3, 0, 4, mark[0], mark[1], mark[2],
-            mark[3], 4, 0, 8, cents[0], cents[1], cents[2], cents[3], cents[4], cents[5], cents[6],
-            cents[7],
+            1, 0, 2, m0, m1, 2, 0, 1, self.owner, 3, 0, 4, k0, k1, k2, k3, 4, 0, 8, c0, c1, c2, c3,
+            c4, c5, c6, c7,
         ]
     }
-}
-
-// The number that at most eight bytes write, the high byte first.
-fn unsigned(bytes: &[u8]) -> u64
-    requires { length bytes.now ≤ 8 }
-    ensures value { result ≡ number bytes.now }
-    ensures back { bytes_of (length bytes.now) result ≡ bytes.now }
-{
-    let mut n: u64 = 0;
-    for b in bytes {
-        n = n * 256 + u64::from(*b);
-    }
-    n
-}
-
-// The number that a field holds behind its tag and length, if these are as they should be.
-fn numbered(piece: &[u8], tag: u8, place: usize) -> Result<u64, ArchiveFault>
-    requires long { 3 ≤ length piece.now }
-    requires short { length piece.now ≤ 11 }
-    ensures answer { told (λ n. n) result ≡ answered place (held piece.now) (first_fault (head_check tag (length piece.now - 3) piece.now ∷ [])) }
-    ensures bytes { IfOk result (λ n. piece.now ≡ field_of tag (length piece.now - 3) n) }
-{
-    match piece {
-        [first, 0, low, rest @ ..] if *first == tag && usize::from(*low) == rest.len() => {
-            Ok(unsigned(rest))
-        }
-        _ => Err(ArchiveFault::Heading { place }),
-    }
-}
-
-// The number of a field, if it lies between two limits.
-fn bounded(piece: &[u8], tag: u8, low: u64, high: u64, place: usize) -> Result<u64, ArchiveFault>
-    requires long { 3 ≤ length piece.now }
-    requires short { length piece.now ≤ 11 }
-    ensures answer { told (λ n. n) result ≡ answered place (held piece.now) (first_fault (field_checks tag (length piece.now - 3) low high piece.now)) }
-    ensures bytes { IfOk result (λ n. piece.now ≡ field_of tag (length piece.now - 3) n) }
-    ensures within { IfOk result (λ n. (low ≤ n) × (n ≤ high)) }
-{
-    let n = numbered(piece, tag, place)?;
-    if !(low..=high).contains(&n) {
-        return Err(ArchiveFault::Value { place });
-    }
-    Ok(n)
-}
-
-// The cents of the last field, if they are within their limit.
-fn amount(piece: &[u8], place: usize) -> Result<i64, ArchiveFault>
-    requires { length piece.now ≡ 11 }
-    ensures answer { told (λ z. z) result ≡ answered place (to_z w64 (held piece.now)) (first_fault (cents_checks piece.now)) }
-    ensures bytes { IfOk result (λ z. piece.now ≡ field_of 4 8 (of_z w64 z)) }
-    ensures within { IfOk result (λ z. unsigned_abs z ≤ 800000000000000) }
-{
-    let cents = numbered(piece, 4, place)?.cast_signed();
-    if cents.unsigned_abs() > MOST_CENTS {
-        return Err(ArchiveFault::Value { place });
-    }
-    Ok(cents)
 }
 
 // The line that bytes begin with: they are the record of that place in an archive.
@@ -94,10 +34,10 @@ pub fn read_record(bytes: &[u8], place: usize) -> Result<Line, ArchiveFault>
     if bytes.len() < RECORD_LEN {
         return Err(ArchiveFault::Short { place });
     }
-    let month = bounded(&bytes[0..5], 1, 0, u64::from(LAST_MONTH), place)?;
-    let owner = bounded(&bytes[5..9], 2, 0, u64::from(LAST_OWNER), place)?;
-    let mark = bounded(&bytes[9..16], 3, 1, u64::from(LAST_MARK), place)?;
-    let cents = amount(&bytes[16..27], place)?;
+    let month = Field::new(&bytes[0..5], place).bounded(1, 0, u64::from(LAST_MONTH))?;
+    let owner = Field::new(&bytes[5..9], place).bounded(2, 0, u64::from(LAST_OWNER))?;
+    let mark = Field::new(&bytes[9..16], place).bounded(3, 1, u64::from(LAST_MARK))?;
+    let cents = Field::new(&bytes[16..27], place).amount()?;
     Ok(Line {
         month: month as u16,
         owner: owner as u8,

@@ -13,6 +13,7 @@ pub(crate) const OWNERS: usize = LAST_OWNER as usize + 1;
 // A month's sums by owner: none where a pair has no line.
 #[derive(Drop)]
 pub(crate) struct Sums {
+    // As it is: a rule of the project: no heap, so there is a place for each pair.
     pub(crate) months: [[Option<i64>; OWNERS]; MONTHS],
 }
 

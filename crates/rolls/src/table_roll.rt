@@ -7,6 +7,7 @@ use crate::roll::{MOST_LINES, Roll};
 
 #[derive(Drop)]
 pub struct TableRoll<'a> {
+    // As it is: a rule of the project: no heap, so the lines are lent, and how many of them are used stands beside them.
     slots: &'a mut [Line],
     used: usize,
     ghost fits: { used ≤ length slots.now },

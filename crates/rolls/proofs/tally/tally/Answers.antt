@@ -2,17 +2,8 @@ use Rattle.std.proofs.Common.{sym, refl, ◌∙◌, arith, rules}
 use Rattle.std.proofs.lemmas.Result.{err_from_is_err_and}
 use Rattle.rolls.specs.Meaning.{row, refusal}
 use Rattle.rolls.proofs.Bounds.{room-left}
-use Rattle.rolls.proofs.Counting.{counted_none, counted-more, stopped_at, ended_at}
+use Rattle.rolls.proofs.Counting.{counted-more, stopped_at, ended_at}
 use Rattle.rolls.proofs.tally.tally.Goals as goal
-
-pub loop-place-init : goal.loop-place-init
-loop-place-init c = record {
-  can = search rules;
-  finite = search rules;
-  size = search rules;
-  counted = rw (c.into_iter-place-iterator.ensures.into_iter_gives, c.enumerate-place-items.ensures.count, c.enumerate-place-items.ensures.source, c.chunks.ensures.rest)
-      (counted_none c.args.archive.now c.args.sums.now c.requires.empty);
-}
 
 pub returns-in_err-read_record : goal.returns-in_err-read_record
 returns-in_err-read_record c =

@@ -1,6 +1,6 @@
-use Rattle.std.proofs.Common.{sym, refl, ◌∙◌, arith}
+use Rattle.std.proofs.Common.{◌∙◌, arith}
 use Rattle.rolls.specs.Meaning.{row}
-use Rattle.rolls.proofs.Recorded.{laid-behind, none-untouched}
+use Rattle.rolls.proofs.Recorded.{laid-behind}
 use Rattle.rolls.proofs.archive_roll.ArchiveRollRoll.add.Goals as goal
 
 pub invariant_of-self : goal.invariant_of-self
@@ -14,9 +14,3 @@ returns c =
     let s = c.args.self.now in
     let l = laid-behind s.used s.bytes.now (row c.args.line) c.copy_from_slice.new.self s.lines s.within c.args.line.within (omega arith) (c.copy_from_slice.ensures.after ∙ c.encode.ensures.bytes) in
     record { adds = (l.rows, rw l.long (omega arith)); untouched = l.untouched }
-
-pub returns-then-free-eq0 : goal.returns-then-free-eq0
-returns-then-free-eq0 c =
-    let s = c.args.self.now in
-    let none = sym c.free.ensures.free ∙ c.if-free-eq0.true in
-    record { adds = (refl, none, refl, none); untouched = none-untouched s.used s.bytes.now s.fits s.lines }

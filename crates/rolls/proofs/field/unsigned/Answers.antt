@@ -1,8 +1,9 @@
-use Rattle.std.proofs.Common.{◌≡◌, take, ap, ◌∙◌, arith}
+use Rattle.std.proofs.Common.{◌≡◌, ◌<◌, take, ap, ◌∙◌, arith}
 use Rattle.std.proofs.lemmas.List.{take_all}
 use Rattle.rolls.specs.Numerals.{number}
-use Rattle.rolls.proofs.Numerals.{number_more, number-take-below, bytes_of-number, all-bytes}
-use Rattle.rolls.proofs.record.unsigned.Goals as goal
+use Rattle.rolls.proofs.Numerals.{number_more, number-take-below, bytes_of-number}
+use Rattle.std.proofs.ByRecursion.{All-from_get_or}
+use Rattle.rolls.proofs.field.unsigned.Goals as goal
 
 pub overflow_mul-n : goal.overflow_mul-n
 overflow_mul-n c = record { fits = omega (arith, number-take-below c.args.bytes.now c.loop-b.b-index 7 (λ i. (c.type_inv.bytes i).fits) (omega arith)) }
@@ -18,4 +19,4 @@ returns c =
     let bs = c.args.bytes.now in
     let whole : take c.loop-b.b-index bs ≡ bs = take_all c.loop-b.b-index bs c.loop-b-test.false in
     let value : c.loop-b.n ≡ number bs = c.loop-b.invariant ∙ ap number whole in
-    record { value = value; back = rw value (bytes_of-number bs (all-bytes bs (λ i. (c.type_inv.bytes i).fits))) }
+    record { value = value; back = rw value (bytes_of-number bs (All-from_get_or (λ b. b < 256) bs 0 (λ i _. (c.type_inv.bytes i).fits))) }
