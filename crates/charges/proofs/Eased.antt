@@ -1,6 +1,7 @@
 -- The columns of transition as the code has them, in lists by value.
-use Rattle.std.proofs.Common.{◌≡◌, ℕ, ◌<◌, ◌≤◌, true, false, List, map, length, get_or, take, ℤ, ◌-ℤ◌, nat_abs, sym, ap, ◌∙◌, subst, ⊎_elim, arith, w64, to_z, of_z}
+use Rattle.std.proofs.Common.{◌≡◌, ℕ, ◌<◌, ◌≤◌, true, false, List, map, zip, length, get_or, take, ℤ, pos, ◌-ℤ◌, nat_abs, sym, ap, ◌∙◌, subst, ⊎_elim, arith, w64, to_z, of_z}
 use lib.Signed.{lt_z}
+use Rattle.std.specs.Borrow.{Bor}
 use Rattle.std.proofs.lemmas.List.{length-take-le, get_or-take, get_or_past}
 use Rattle.std.proofs.lemmas.Bool.{cases_lt, cond-true, cond-false}
 use Rattle.division.specs.Shares.{int_sum, shares, total}
@@ -12,8 +13,9 @@ use Rattle.charges.specs.declared.burdens.Burdens.{Burdens}
 use Rattle.charges.specs.declared.owners.Owners.{Owners}
 use Rattle.charges.specs.declared.caps.Caps.{Caps}
 use Rattle.charges.specs.Capping.{adjusted-long}
+use Rattle.charges.proofs.Given.{of_pairs}
 use Rattle.charges.proofs.Sizes.{owners-long, below-sum, below-weaker, caps-along, caps-total}
-use Rattle.charges.proofs.Limited.{excesses-below, headrooms-below, benefits-below, excess-sum-size, headroom-sum-size, payments-below, mitigations-below, adjusted-below, capped-below, uncapped-below, finals-below, transitions-below, again-below, rest_below}
+use Rattle.charges.proofs.Limited.{excesses-below, headrooms-below, benefits-below, excess-sum-size, headroom-sum-size, payments-below, mitigations-below, capped-below, uncapped-below, finals-below, transitions-below, again-below, rest_below}
 use Rattle.charges.specs.Parts.{count_of}
 
 abbrev read : ℤ → ℤ
@@ -55,6 +57,10 @@ module _ (s : Caps) (burdens : Burdens) where
   pub burdens-held : AllBelow 1000000000000000 bs
   burdens-held = below-weaker 500000000000 1000000000000000 bs (omega arith) small
 
+  -- of an owner's cap beside its burden
+  pub pairs-held : (zs : List (ℕ × ℤ)) → zs ≡ zip caps bs → (k : ℕ) (o : ℕ × ℤ) → k < length zs → (p : Bor (ℕ × ℤ)) → p.now ≡ get_or zs k o → nat_abs p.now.1 ≤ 1000000000000000
+  pairs-held zs e = of_pairs (λ p. nat_abs p.1 ≤ 1000000000000000) zs caps bs e 0 (pos 0) (λ k l m. burdens-held k)
+
   pub excess-held : (x : Owners ℤ) → amounts_of x ≡ along excess caps bs → AllBelow 1000000000000000 (amounts_of x)
   excess-held x e = held x (along excess caps bs) 600000000000 e (omega arith) (excesses-below caps bs same few small-caps small)
 
@@ -66,11 +72,8 @@ module _ (s : Caps) (burdens : Burdens) where
 
   -- the payments
   module _ (x h : ℤ) (x-is : x ≡ all_excess caps bs) (h-is : h ≡ all_headroom caps bs) where
-    pub excess-small : nat_abs x ≤ 9600000000000
-    excess-small = rw x-is (excess-sum-size caps bs same few small-caps small)
-
-    pub headroom-small : nat_abs h ≤ 9600000000000
-    headroom-small = rw h-is (headroom-sum-size caps bs same few small-caps small)
+    pub totals-small : (nat_abs x ≤ 9600000000000) × (nat_abs h ≤ 9600000000000)
+    totals-small = (rw x-is (excess-sum-size caps bs same few small-caps small), rw h-is (headroom-sum-size caps bs same few small-caps small))
 
     -- what is divided by benefit
     module _ (d b : Owners ℤ) (z : ℤ) (b-is : amounts_of b ≡ along benefit caps bs) (d-is : amounts_of d ≡ shares z (map nat_abs (amounts_of b))) (z-is : z ≡ x -ℤ h) where
@@ -109,18 +112,12 @@ module _ (s : Caps) (burdens : Burdens) where
 
   -- the final burdens
   module _ (j : Owners ℤ) (j-is : amounts_of j ≡ adjusted shares caps bs) where
-    pub adjusted-held : AllBelow 1000000000000000 (amounts_of j)
-    adjusted-held = held j _ 22000000000000 j-is (omega arith) (adjusted-below caps bs same few small-caps small shares running-divides)
-
     pub adjusted-counted : j.count ≡ a.count
     adjusted-counted = count_of j _ j-is ∙ adjusted-long shares running-divides caps bs same ∙ caps-long
 
     -- a gauge that reads the adjusted burdens
     gauged : (f : ℕ → ℤ → ℤ) (x : Owners ℤ) → amounts_of x ≡ along f (take j.count s.items) (amounts_of j) → amounts_of x ≡ along f caps (adjusted shares caps bs)
     gauged f x e = e ∙ ap (λ n. along f (take n s.items) (amounts_of j)) adjusted-counted ∙ ap (along f caps) j-is
-
-    pub capped-held : (x : Owners ℤ) → amounts_of x ≡ along of_capped (take j.count s.items) (amounts_of j) → AllBelow 1000000000000000 (amounts_of x)
-    capped-held x e = held x _ 22000000000000 (gauged of_capped x e) (omega arith) (capped-below caps bs same few small-caps small shares running-divides)
 
     pub capped-small : (x : Owners ℤ) → amounts_of x ≡ along of_capped (take j.count s.items) (amounts_of j) → nat_abs (int_sum (amounts_of x)) ≤ 352000000000000
     capped-small x e =

@@ -61,11 +61,6 @@ module _ {X D E : Type 0} (P : D → E → Type 0) where
   mapped-from_ok (Err d) (Ok y) h x e = absurd h
   mapped-from_ok (Err d) (Err f) h x e = cc
 
-  pub mapped-from_err : (r : Result X D) (q : Result X E) → MatchResult r (λ x. q ≡ Ok x) (λ e. IsErrAnd q (P e)) → (f : E) → q ≡ Err f → (d : D) × (r ≡ Err d) × P d f
-  mapped-from_err (Ok y) q h f e = let one = h in let z : ◌≡◌ {A = ℕ} 0 1 = cc in absurd (omega arith)
-  mapped-from_err (Err d) (Ok y) h f e = absurd h
-  mapped-from_err (Err d) (Err g) h f e = let same : g ≡ f = cc in (d, refl, subst (P d) same h)
-
 -- what holds of each answer of a rule holds at every place
 pub given_each : {A B F : Type 0} (g : Shared F (Bor A × Unit {0}) B) (rule : F) (P : B → Type 0) (d : B) → P d → ((x : A) (r : B) → FnReturnsAt g rule x r → P r) → (xs : List A) (ys : List B) → AllZip (FnReturnsAt g rule) xs ys → (k : ℕ) → P (get_or ys k d)
 given_each g rule P d base each [] [] h k = base

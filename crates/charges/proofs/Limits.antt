@@ -1,9 +1,9 @@
 -- The rows of every table keep the limits.
 use Rattle.std.proofs.Common.{◌≡◌, ℕ, ◌<◌, ◌≤◌, false, ltb, List, length, get_or, pos, ◌==◌, nat_abs, sym, ap, ◌∙◌, arith}
-use Rattle.std.proofs.ByRecursion.{All-get_or, All-from_get_or}
+use Rattle.std.proofs.ByRecursion.{All-get_or, All-from_get_or, All-weaker, sum_by_le}
 use Rattle.std.proofs.lemmas.List.{length-take-le, get_or-take}
 use Rattle.std.proofs.lemmas.Bool.{ltb-false, or_parts, cond_both}
-use Rattle.charges.specs.Rows.{Good, RowWithin, RequiredWithin, UsedWithin, nobody, all_ehv, all_nhv, area_ehv, ehv_in}
+use Rattle.charges.specs.Rows.{Good, RowWithin, RequiredWithin, UsedWithin, nobody, ehv_size, nhv_size, all_ehv, all_nhv, area_ehv, ehv_in}
 use Rattle.charges.specs.Owners.{items_of}
 use Rattle.charges.specs.Tables.{rows_of, outside_areas, outside_figure, outside_figures, outside_requirement, outside_use}
 use Rattle.charges.specs.declared.owners.Owners.{Owners}
@@ -72,6 +72,16 @@ module _ (rows : List OwnerRow) (figures : outside_figures rows ≡ false) (i : 
   row-required areas =
       let area = All-get_or (λ r. ltb 2 r.area ≡ false) rows i nobody h (each-lacks (λ r. ltb 2 r.area) rows areas) in
       (ltb-false 2 _ area, row-dollars.0, row-dollars.1)
+
+-- so few rows require little together
+pub sizes-little : (rows : List OwnerRow) → outside_figures rows ≡ false → length rows ≤ 16 → (ehv_size rows ≤ 32000000000) × (nhv_size rows ≤ 32000000000)
+sizes-little rows figures few =
+    let inside = each-lacks outside_figure rows figures in
+    let ehv = All-weaker (λ r. outside_figure r ≡ false) (λ r. nat_abs r.ehv ≤ 2000000000) (λ r e. (dollars-inside r e).0) rows inside in
+    let nhv = All-weaker (λ r. outside_figure r ≡ false) (λ r. nat_abs r.nhv ≤ 2000000000) (λ r e. (dollars-inside r e).1) rows inside in (
+      omega (arith, few, sum_by_le (λ r. nat_abs r.ehv) 2000000000 rows ehv),
+      omega (arith, few, sum_by_le (λ r. nat_abs r.nhv) 2000000000 rows nhv),
+    )
 
 -- a row stands in the table where it stood
 pub kept_at : (rows : List OwnerRow) (o : Owners OwnerRow) → items_of o ≡ rows → (i : ℕ) → i < o.count → get_or rows i nobody ≡ get_or o.items i nobody

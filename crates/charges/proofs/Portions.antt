@@ -84,11 +84,3 @@ module _ (ehv nhv a b c : ℤ) (small-ehv : nat_abs ehv ≤ 2000000000) (small-n
 
   pub grid-small : nat_abs (ehv -ℤ (a +ℤ b +ℤ c) +ℤ nhv) ≤ 100000000000
   grid-small = omega (arith, ints)
-
--- what is left for the peaks
-module _ (all by-load : ℤ) (Small-all : nat_abs all ≤ 5000000000) (small-load : nat_abs by-load ≤ 5000000000) where
-  pub left_is : read (read all -ℤ read by-load) ≡ all -ℤ by-load
-  left_is = omega (arith, ints)
-
-  pub left-small : nat_abs (all -ℤ by-load) ≤ 100000000000
-  left-small = omega (arith, ints)

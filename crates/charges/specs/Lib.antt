@@ -9,6 +9,7 @@ pub mod Outcomes
 pub mod Owners
 pub mod Amounts
 pub mod Meaning
+pub mod Rounding
 pub mod Pools
 pub mod Charging
 pub mod Volumetric
@@ -23,3 +24,4 @@ pub mod Scans
 pub mod Layering
 pub mod Along
 pub mod Capping
+pub mod Easing

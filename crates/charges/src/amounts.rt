@@ -36,6 +36,7 @@ impl Owners<i64> {
     pub fn total(&self) -> i128
         ensures { result ≡ int_sum (amounts_of self.now) }
     {
+        // As it is: tried as map and sum, where no proof is found that the sum of signed numbers fits.
         let mut sum = 0;
         for amount in self.all() {
             sum += i128::from(*amount);
@@ -53,6 +54,7 @@ impl Owners<i64> {
     }
 
     // These amounts less others, owner by owner.
+    // As it is: a rule of the project: public functions ask for no limits, so this is for charges alone, and book has a `change`.
     pub(crate) fn less(&self, other: &Amounts) -> Amounts
         requires bound { AllBelow 1000000000000000 (amounts_of self.now) }
         requires other_bound { AllBelow 1000000000000000 (amounts_of other.now) }

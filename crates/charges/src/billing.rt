@@ -14,3 +14,11 @@ pub struct Rates {
     pub mwh: i64,
     pub mw: i64,
 }
+
+// The highest rates that are billed, in hundredths of a cent: for each MWh, and for each MW.
+pub(crate) const HIGHEST_FOR_MWH: u64 = 10_000_000;
+
+pub(crate) const HIGHEST_FOR_MW: u64 = 1_000_000_000;
+
+// The largest part in dollars, and the largest bill in cents.
+pub(crate) const LARGEST_AMOUNT: u64 = 10_000_000_000_000;

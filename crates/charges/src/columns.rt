@@ -7,8 +7,6 @@ ghost use Rattle.charges.specs.Tables.{rows_of};
 ghost use Rattle.charges.specs.Transition.{burdens, eased, final_burdens, transition_charges, transition_rates};
 
 use crate::amounts::Amounts;
-use crate::caps::Caps;
-use crate::gauge::{above_cap, below_cap};
 use crate::layer::rates_of;
 use crate::table::Table;
 use crate::transition::Transition;
@@ -49,35 +47,20 @@ impl<C> Transition<C> {
         ensures charges { amounts_of result.charges ≡ transition_charges shares self.now.caps.existing.tenths self.now.caps.items (rows_of table.now) }
         ensures rates { amounts_of result.rates ≡ transition_rates self.now.caps.existing.tenths self.now.caps.items (rows_of table.now) }
     {
-        self.caps.columns(table)
-    }
-}
-
-impl Caps {
-    pub(crate) fn columns(&self, table: &Table) -> Columns
-        ensures burdens { amounts_of result.burdens ≡ burdens shares self.now.existing.tenths (rows_of table.now) }
-        ensures headroom { amounts_of result.headroom ≡ eased (along headroom) self.now.existing.tenths self.now.items (rows_of table.now) }
-        ensures excess { amounts_of result.excess ≡ eased (along excess) self.now.existing.tenths self.now.items (rows_of table.now) }
-        ensures payments { amounts_of result.payments ≡ eased (payments shares) self.now.existing.tenths self.now.items (rows_of table.now) }
-        ensures mitigations { amounts_of result.mitigations ≡ eased (mitigations shares) self.now.existing.tenths self.now.items (rows_of table.now) }
-        ensures adjusted { amounts_of result.adjusted ≡ eased (adjusted shares) self.now.existing.tenths self.now.items (rows_of table.now) }
-        ensures finals { amounts_of result.finals ≡ final_burdens shares self.now.existing.tenths self.now.items (rows_of table.now) }
-        ensures charges { amounts_of result.charges ≡ transition_charges shares self.now.existing.tenths self.now.items (rows_of table.now) }
-        ensures rates { amounts_of result.rates ≡ transition_rates self.now.existing.tenths self.now.items (rows_of table.now) }
-    {
-        let burdens = self.burdens(table);
-        let owners = self.beside(&burdens.amounts);
-        let excess = owners.map(above_cap);
-        let payments = self.payments(&burdens);
-        let charges = self.charges(table);
+        let caps = &self.caps;
+        let burdens = caps.burdens(table);
+        let headroom = caps.headroom(&burdens);
+        let excess = caps.excess(&burdens);
+        let payments = caps.payments(&burdens);
+        let charges = caps.charges(table);
         Columns {
             burdens: burdens.amounts,
-            headroom: owners.map(below_cap),
+            headroom,
             excess,
             payments,
             mitigations: payments.less(&excess),
-            adjusted: self.adjusted(&burdens),
-            finals: self.finals(&burdens),
+            adjusted: caps.adjusted(&burdens),
+            finals: caps.finals(&burdens),
             charges,
             rates: rates_of(&charges, table),
         }

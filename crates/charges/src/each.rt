@@ -1,9 +1,11 @@
 // Lists of what each owner has: made, read, and reckoned with owner by owner.
-ghost use Rattle.std.specs.Prelude.{◌≡◌, ◌<◌, [], ◌∷◌, ◌++◌, zip, length, MatchOption};
+ghost use Rattle.std.specs.Prelude.{◌≡◌, ◌<◌, [], ◌∷◌, ◌++◌, map, zip, length, pos, MatchOption};
 ghost use Rattle.std.specs.Fn.{FnReturnsAt};
 ghost use Rattle.std.specs.List.{slice_get, All, AllZip};
+ghost use Rattle.charges.specs.Amounts.{amounts_of};
 ghost use Rattle.charges.specs.Owners.{items_of, FnTakesAt};
 
+use crate::amounts::Amounts;
 use crate::owners::Owners;
 
 impl<T: Copy> Owners<T> {
@@ -38,6 +40,16 @@ impl<T: Copy> Owners<T> {
             given.push(rule(item));
         }
         given
+    }
+
+    // An amount of 0 for each owner.
+    pub fn zeros(&self) -> Amounts
+        ensures { amounts_of result ≡ map (λ _. pos 0) (items_of self.now) }
+    {
+        Owners {
+            items: [0; 16],
+            count: self.count,
+        }
     }
 }
 

@@ -2,7 +2,8 @@
 ghost use Rattle.std.specs.Prelude.{◌≡◌, take, zip};
 ghost use Rattle.division.specs.Shares.{shares};
 ghost use Rattle.charges.specs.Amounts.{amounts_of};
-ghost use Rattle.charges.specs.Burdens.{payments, adjusted, finals, transitions};
+ghost use Rattle.charges.specs.Burdens.{along, benefit, excess, headroom, payments, adjusted, finals, transitions};
+ghost use Rattle.charges.specs.Easing.{column};
 ghost use Rattle.charges.specs.Owners.{items_of};
 
 use crate::amounts::Amounts;
@@ -14,14 +15,14 @@ use crate::owners::Owners;
 impl Caps {
     // The transition charges, column [38]: the final burdens less the burdens.
     pub(crate) fn transitions(&self, burdens: &Burdens) -> Amounts
-        ensures { amounts_of result ≡ transitions shares (take burdens.now.amounts.count self.now.items) (amounts_of burdens.now.amounts) }
+        ensures { amounts_of result ≡ column (transitions shares) self.now burdens.now }
     {
         self.finals(burdens).less(&burdens.amounts)
     }
 
     // The final burdens, column [39]: what capped owners bear is divided again by cap, and an uncapped owner keeps its own.
     pub(crate) fn finals(&self, burdens: &Burdens) -> Amounts
-        ensures { amounts_of result ≡ finals shares (take burdens.now.amounts.count self.now.items) (amounts_of burdens.now.amounts) }
+        ensures { amounts_of result ≡ column (finals shares) self.now burdens.now }
     {
         let adjusted = self.beside(&self.adjusted(burdens));
         let capped = adjusted.map(of_capped).total();
@@ -31,27 +32,47 @@ impl Caps {
 
     // The adjusted burdens, column [36]: the mitigation, column [35], is the payment less the excess.
     pub(crate) fn adjusted(&self, burdens: &Burdens) -> Amounts
-        ensures { amounts_of result ≡ adjusted shares (take burdens.now.amounts.count self.now.items) (amounts_of burdens.now.amounts) }
+        ensures { amounts_of result ≡ column (adjusted shares) self.now burdens.now }
     {
-        let excess = self.beside(&burdens.amounts).map(above_cap);
+        let excess = self.excess(burdens);
         let mitigations = self.payments(burdens).less(&excess);
         burdens.amounts.plus(&mitigations)
     }
 
     // The payments, column [34]: by headroom, or all of it and by benefit what it leaves.
     pub(crate) fn payments(&self, burdens: &Burdens) -> Amounts
-        ensures { amounts_of result ≡ payments shares (take burdens.now.amounts.count self.now.items) (amounts_of burdens.now.amounts) }
+        ensures { amounts_of result ≡ column (payments shares) self.now burdens.now }
     {
-        let owners = self.beside(&burdens.amounts);
-        let excess = owners.map(above_cap).total();
-        let headroom = owners.map(below_cap);
+        let excess = self.excess(burdens).total();
+        let headroom = self.headroom(burdens);
         let room = headroom.total();
         if room < excess {
-            let benefit = owners.map(below_nothing);
+            let benefit = self.benefit(burdens);
             headroom.plus(&benefit.divided((excess - room) as i64))
         } else {
             headroom.divided(excess as i64)
         }
+    }
+
+    // How far each burden is above its cap, column [33], or above 0 for an uncapped owner.
+    pub(crate) fn excess(&self, burdens: &Burdens) -> Amounts
+        ensures { amounts_of result ≡ column (along excess) self.now burdens.now }
+    {
+        self.beside(&burdens.amounts).map(above_cap)
+    }
+
+    // How far each burden is below its cap, column [32].
+    pub(crate) fn headroom(&self, burdens: &Burdens) -> Amounts
+        ensures { amounts_of result ≡ column (along headroom) self.now burdens.now }
+    {
+        self.beside(&burdens.amounts).map(below_cap)
+    }
+
+    // How far each burden of an uncapped owner is below 0.
+    fn benefit(&self, burdens: &Burdens) -> Amounts
+        ensures { amounts_of result ≡ column (along benefit) self.now burdens.now }
+    {
+        self.beside(&burdens.amounts).map(below_nothing)
     }
 
     // Each owner's cap beside an amount of its own.

@@ -24,7 +24,7 @@ pub enum SettingFault {
 }
 
 // Why a month is not billed: the number of the reason, where it arose, and at which level of charges.
-// As it is: a rule of the project: a refusal goes by its number, its place and its level, on every page and in every script.
+// As it is: a rule of the project: a refusal goes by its number; a charge of another crate may refuse with a number of its own, so an enum would ask more of it.
 #[derive(Clone, Copy, PartialEq, Eq, Debug)]
 pub struct ChargeFault {
     pub number: u8,
@@ -56,13 +56,12 @@ impl Reason {
         requires { IfSome place (λ k. k < 256) }
         ensures { fault_in result ≡ option_map (fault_at (reason_number self)) place }
     {
-        match place {
-            Some(place) => Err(ChargeFault {
+        place.map_or(Ok(()), |place| {
+            Err(ChargeFault {
                 number: self.number(),
                 place: place as u8,
                 level: 0,
-            }),
-            None => Ok(()),
-        }
+            })
+        })
     }
 }

@@ -20,7 +20,8 @@ use crate::requirement::{all_required, portion};
 use crate::table::Table;
 
 // What percentage of all requirements is carried by load.
-// As it is: one generic type for both charges is no plainer: the pools and the settings differ, and all else is a call of the pools.
+// As it is: one generic type for both charges is no plainer: the settings and the pools differ, and `rates` and `ask` are each one call of the pools.
+// One function for both `new`s would take the limit and the constructor, and is no plainer than the test in each.
 #[derive(Clone, Copy)]
 pub struct Hybrid {
     percent: u8,

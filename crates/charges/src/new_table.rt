@@ -106,11 +106,7 @@ fn sizes(rows: &[OwnerRow]) -> (u64, u64)
     ensures ehv_bound { result.0 ≤ 32000000000 }
     ensures nhv_bound { result.1 ≤ 32000000000 }
 {
-    let mut ehv = 0;
-    let mut nhv = 0;
-    for row in rows {
-        ehv += row.ehv.unsigned_abs();
-        nhv += row.nhv.unsigned_abs();
-    }
+    let ehv = rows.iter().map(|row| row.ehv.unsigned_abs()).sum();
+    let nhv = rows.iter().map(|row| row.nhv.unsigned_abs()).sum();
     (ehv, nhv)
 }

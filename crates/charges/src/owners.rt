@@ -11,7 +11,7 @@ pub struct Owners<T> {
     ghost fits: { count ≤ length items },
 }
 
-// As it is: tried as derives, which a generic struct with a ghost field cannot have.
+// As it is: tried as derive(Clone, Copy), which is refused for a generic struct with a ghost field (derive-over-ghost-field).
 impl<T: Copy> Copy for Owners<T> {}
 
 impl<T: Copy> Clone for Owners<T> {

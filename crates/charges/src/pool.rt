@@ -2,17 +2,17 @@
 ghost use Rattle.std.specs.Prelude.{◌≡◌, ◌*◌, ◌≤◌, unsigned_abs};
 ghost use Rattle.division.specs.Shares.{total};
 ghost use Rattle.charges.specs.Owners.{items_of};
-ghost use Rattle.charges.specs.Pools.{weight, weights, bears, basis_place, pool_of, pool_rate, rate_in, unfiled};
+ghost use Rattle.charges.specs.Pools.{weight, weights, bears, basis_place, pool_of, pool_rate, rate_in, unfiled, SmallSum};
 ghost use Rattle.charges.specs.Tables.{rows_of};
 
 use crate::owners::Owners;
+use crate::rounding::rate_for_each;
 use crate::table::{OwnerRow, Table};
-use division::nearest;
 
 // What a pool is divided over: the filed loads of an area, all filed loads, or all filed peaks.
 #[derive(Clone, Copy)]
 pub(crate) enum Basis {
-    // As it is: an area as in a row of a table.
+    // As it is: an enum of the areas is no plainer: the number is compared with a row's, which may be none of the three, so the enum would be turned back at each comparison.
     AreaLoad(u8),
     GridLoad,
     Peak,
@@ -27,6 +27,8 @@ pub(crate) enum Meter {
 }
 
 // A sum in dollars, and all that is filed of what it is divided over.
+// As it is: tried with the sum's bound as an invariant, where the definitions make no pools: what a charge means is said of any rows,
+// whose sums may be of any size.
 #[derive(Clone, Copy)]
 pub(crate) struct Pool {
     pub(crate) sum: i64,
@@ -106,7 +108,7 @@ impl Pool {
 
     // What the pool adds to an owner's rate for what a meter counts.
     pub(crate) fn rate_in(&self, meter: Meter, row: &OwnerRow) -> i64
-        requires { unsigned_abs self.now.sum ≤ 100000000000 }
+        requires { SmallSum self.now }
         ensures value { result ≡ rate_in meter row.now self.now }
         ensures bound { unsigned_abs result ≤ 1000000000000000 }
     {
@@ -119,11 +121,11 @@ impl Pool {
 
     // Hundredths of a cent for each unit, and 0 where nothing is filed.
     fn rate(&self) -> i64
-        requires { unsigned_abs self.now.sum ≤ 100000000000 }
+        requires { SmallSum self.now }
         ensures value { result ≡ pool_rate self.now }
         ensures bound { unsigned_abs result ≤ 1000000000000000 }
     {
-        nearest(10_000 * self.sum, self.filed).unwrap_or(0)
+        rate_for_each(self.sum, self.filed)
     }
 }
 

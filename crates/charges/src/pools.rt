@@ -1,7 +1,7 @@
 // What a charge divides.
 ghost use Rattle.std.specs.Prelude.{◌≡◌, ◌≤◌, length, unsigned_abs};
 ghost use Rattle.std.specs.List.{AllByRecursion, AllByRecursion-prop};
-ghost use Rattle.charges.specs.Pools.{PoolsWithin};
+ghost use Rattle.charges.specs.Pools.{PoolsWithin, SmallSum};
 ghost use Rattle.std.proofs.Props.{props};
 
 use crate::pool::Pool;
@@ -11,7 +11,7 @@ use crate::pool::Pool;
 pub(crate) struct Pools<'a> {
     pub(crate) items: &'a [Pool],
     ghost few: { length items.now ≤ 4 },
-    ghost sums: { AllByRecursion (λ p. unsigned_abs p.sum ≤ 100000000000) items.now } by { AllByRecursion-prop (λ p. unsigned_abs p.sum ≤ 100000000000) (λ p. Prim.hlevel props) items.now },
+    ghost sums: { AllByRecursion SmallSum items.now } by { AllByRecursion-prop SmallSum (λ p. Prim.hlevel props) items.now },
 }
 
 impl<'a> Pools<'a> {

@@ -12,19 +12,7 @@ use crate::table::{OwnerRow, Table};
 pub(crate) fn ehv_of(table: &Table) -> Amounts
     ensures { amounts_of result ≡ map (λ x. x.ehv) (rows_of table.now) }
 {
-    table.rows.map(ehv)
-}
-
-fn ehv(row: &OwnerRow) -> i64
-    ensures { result ≡ row.now.ehv }
-{
-    row.ehv
-}
-
-fn nhv(row: &OwnerRow) -> i64
-    ensures { result ≡ row.now.nhv }
-{
-    row.nhv
+    table.rows.map(|row| row.ehv)
 }
 
 // For existing facilities, of all owners.
@@ -40,7 +28,7 @@ pub(crate) fn all_nhv(table: &Table) -> i64
     ensures value { result ≡ all_nhv (rows_of table.now) }
     ensures bound { unsigned_abs result ≤ 3000000000 }
 {
-    table.rows.map(nhv).total() as i64
+    table.rows.map(|row| row.nhv).total() as i64
 }
 
 // For all facilities, of all owners.

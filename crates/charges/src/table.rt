@@ -7,7 +7,7 @@ use crate::owners::Owners;
 // Areas are 0 North, 1 East and Central, 2 South; requirements are in whole dollars a year, loads in MWh and peaks in MW.
 #[derive(Clone, Copy, PartialEq, Eq, Debug, Default)]
 pub struct OwnerRow {
-    // As it is: a rule of the project: a row can name an area that is none of the three, and no table is made of it.
+    // As it is: a rule of the project: areas go by their numbers 0 to 2, and a row may name one that is none: then no table is made of it.
     pub area: u8,
     pub ehv: i64,
     pub nhv: i64,

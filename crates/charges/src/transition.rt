@@ -83,8 +83,7 @@ fn risen(fault: ChargeFault) -> ChargeFault
     ensures { result ≡ record { number = fault.number; place = fault.place; level = raised fault.level } }
 {
     ChargeFault {
-        number: fault.number,
-        place: fault.place,
         level: fault.level.min(249) + 1,
+        ..fault
     }
 }

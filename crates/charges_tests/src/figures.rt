@@ -1,16 +1,7 @@
 // Parts and bills.
 use crate::helpers::*;
-use charges::{Hybrid, OwnerRow, Volumetric};
+use charges::{Hybrid, Volumetric};
 use std::test::Fail;
-
-// The worked month.
-fn worked() -> [OwnerRow; 3] {
-    [
-        row(0, (1000, 200), (100, 10), (8, 1)),
-        row(1, (1500, 0), (100, 6), (9, 1)),
-        row(1, (500, 0), (50, 4), (5, 0)),
-    ]
-}
 
 #[test]
 fn worked_month_by_volume(rt: HostRuntime) -> Result<(), Fail> {

@@ -1,5 +1,5 @@
 // What the tests share.
-use charges::{Amounts, Billing, Charge, ChargeFault, OwnerRow, Table};
+use charges::{Amounts, Charge, ChargeFault, OwnerRow, Table};
 use std::process::Abort;
 use std::test::Fail;
 
@@ -21,12 +21,18 @@ pub(crate) fn row(
     }
 }
 
+// The worked month.
+pub(crate) fn worked() -> [OwnerRow; 3] {
+    [
+        row(0, (1000, 200), (100, 10), (8, 1)),
+        row(1, (1500, 0), (100, 6), (9, 1)),
+        row(1, (500, 0), (50, 4), (5, 0)),
+    ]
+}
+
 // That the amounts are just these.
 pub(crate) fn check_amounts(rt: &impl Abort, amounts: &Amounts, wanted: &[i64]) {
-    assert_eq!(rt; amounts.count(), wanted.len());
-    for (i, amount) in wanted.iter().enumerate() {
-        assert_eq!(rt; amounts.at(i), Some(*amount));
-    }
+    assert_eq!(rt; amounts.all(), wanted);
 }
 
 // That the charge bills these rows so.
@@ -52,19 +58,24 @@ pub(crate) fn check_refused<C: Charge>(
     number: u8,
     place: u8,
 ) -> Result<(), Fail> {
+    check_risen(rt, charge, rows, number, place, 0)
+}
+
+// That the charge refuses these rows with a number at a place and a level.
+pub(crate) fn check_risen<C: Charge>(
+    rt: &impl Abort,
+    charge: &C,
+    rows: &[OwnerRow],
+    number: u8,
+    place: u8,
+    level: u8,
+) -> Result<(), Fail> {
     let table = Table::new(rows)?;
     let fault = ChargeFault {
         number,
         place,
-        level: 0,
+        level,
     };
-    assert_eq!(rt; refusal(charge.ask(0, &table)), Some(fault));
+    assert_eq!(rt; charge.ask(0, &table).err(), Some(fault));
     Ok(())
-}
-
-fn refusal(answer: Result<Billing, ChargeFault>) -> Option<ChargeFault> {
-    match answer {
-        Ok(_) => None,
-        Err(fault) => Some(fault),
-    }
 }

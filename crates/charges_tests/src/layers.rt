@@ -1,45 +1,11 @@
 // Transition layers: on each charge, on each other, and what they refuse.
 use crate::helpers::*;
-use charges::{Charge, ChargeFault, Hybrid, OwnerRow, Table, Transition, Volumetric};
-use std::process::Abort;
+use charges::{Hybrid, Transition, Volumetric};
 use std::test::Fail;
-
-// The worked month.
-fn worked() -> [OwnerRow; 3] {
-    [
-        row(0, (1000, 200), (100, 10), (8, 1)),
-        row(1, (1500, 0), (100, 6), (9, 1)),
-        row(1, (500, 0), (50, 4), (5, 0)),
-    ]
-}
 
 // Caps of the first three owners; all others are uncapped.
 fn caps(first: u32, second: u32, third: u32) -> [u32; 16] {
     [first, second, third, 0, 0, 0, 0, 0, 0, 0, 0, 0, 0, 0, 0, 0]
-}
-
-// That the charge refuses these rows with a number at a place and a level.
-fn check_risen<C: Charge>(
-    rt: &impl Abort,
-    charge: &C,
-    rows: &[OwnerRow],
-    number: u8,
-    place: u8,
-    level: u8,
-) -> Result<(), Fail> {
-    let table = Table::new(rows)?;
-    let wanted = ChargeFault {
-        number,
-        place,
-        level,
-    };
-    match charge.ask(0, &table) {
-        Ok(_) => Err(Fail::new("billed")),
-        Err(fault) => {
-            assert_eq!(rt; fault, wanted);
-            Ok(())
-        },
-    }
 }
 
 #[test]

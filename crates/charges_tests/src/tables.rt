@@ -4,10 +4,7 @@ use charges::{OwnerRow, Table, TableFault};
 use std::test::Fail;
 
 fn fault(rows: &[OwnerRow]) -> Option<TableFault> {
-    match Table::new(rows) {
-        Ok(_) => None,
-        Err(fault) => Some(fault),
-    }
+    Table::new(rows).err()
 }
 
 #[test]
@@ -18,6 +15,14 @@ fn owners(rt: HostRuntime) {
     assert_eq!(rt; fault(&[one; 17]), Some(TableFault::Owners));
     let nowhere = row(3, (0, 0), (180_000_001, 0), (0, 0));
     assert_eq!(rt; fault(&[one, nowhere]), Some(TableFault::Owners));
+}
+
+#[test]
+fn zeros(rt: HostRuntime) -> Result<(), Fail> {
+    let one = row(2, (7, 8), (0, 0), (0, 0));
+    let table = Table::new(&[one; 3])?;
+    check_amounts(&rt, &table.by_owner().zeros(), &[0, 0, 0]);
+    Ok(())
 }
 
 #[test]

@@ -1,9 +1,7 @@
 // The worked month under both charges, each owner's rates, part and bill, and then under transition layers, column by column.
 #![tactic(auto)]
 
-ghost use Rattle.std.specs.Prelude.{◌≡◌, IfSome};
-ghost use Rattle.division.specs.Shares.{int_sum};
-ghost use Rattle.charges.specs.Amounts.{amounts_of};
+ghost use Rattle.std.specs.Prelude.{◌≡◌};
 ghost use Rattle.charges.specs.Worked.{worked_rows};
 
 use anyhow::{Context, anyhow};
@@ -44,17 +42,6 @@ fn worked_rows() -> [OwnerRow; 3]
     ]
 }
 
-// What the amounts add up to, or nothing where that is too large to write.
-fn total(amounts: &Amounts) -> Option<i64>
-    ensures { IfSome result (λ sum. sum ≡ int_sum (amounts_of amounts.now)) }
-{
-    let mut sum: i64 = 0;
-    for amount in amounts.all() {
-        sum = sum.checked_add(*amount)?;
-    }
-    Some(sum)
-}
-
 fn print_owner(
     rt: &impl Print,
     owner: usize,
@@ -68,8 +55,8 @@ fn print_owner(
 }
 
 fn print_totals(rt: &impl Print, billing: &Billing) -> anyhow::Result<()> {
-    let parts = total(&billing.parts).context("a total too large")?;
-    let bills = total(&billing.bills).context("a total too large")?;
+    let parts = billing.parts.total();
+    let bills = billing.bills.total();
     println!(rt; "total {parts:>30} {bills:>8}")?;
     Ok(())
 }
@@ -113,8 +100,7 @@ fn print_owners(rt: &impl Print, name: &str, amounts: &Amounts) -> anyhow::Resul
 // A column with what its amounts add up to.
 fn print_column(rt: &impl Print, name: &str, amounts: &Amounts) -> anyhow::Result<()> {
     print_owners(rt, name, amounts)?;
-    let sum = total(amounts).context("a total too large")?;
-    println!(rt; " {sum:>8}")?;
+    println!(rt; " {:>8}", amounts.total())?;
     Ok(())
 }
 

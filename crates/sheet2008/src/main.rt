@@ -3,13 +3,13 @@
 #![tactic(auto)]
 
 use anyhow::{Context, ensure};
-use charges::{Amounts, OwnerRow, Table, Transition, Volumetric};
+use charges::{Amounts, OwnerRow, Owners, Table, Transition, Volumetric};
 
 // A column of the sheet: the nine owners' figures and then the total, 0 where a figure cannot be read.
 #[derive(Clone, Copy)]
 struct Column {
     number: u8,
-    // As it is: as Option the figures would need a Some around each of a hundred and twenty-seven.
+    // As it is: as Option the figures are no plainer, with a Some around each of a hundred and twenty-seven.
     unread: Option<usize>,
     figures: [i64; 10],
 }
@@ -214,58 +214,44 @@ fn sheet() -> [Column; 13] {
     ]
 }
 
-// The amounts of the nine owners.
-fn listed(amounts: &Amounts) -> Option<[i64; 9]> {
-    amounts.all().first_chunk().copied()
-}
-
 // Two columns put together, owner by owner.
+// As it is: a map of the pairs is no plainer: it keeps an Option for each owner, and nothing makes one Option of them.
 fn paired<F: Fn(i64, i64) -> Option<i64>>(
-    one: &[i64; 9],
-    other: &[i64; 9],
+    one: &Amounts,
+    other: &Amounts,
     together: F,
-) -> Option<[i64; 9]>
+) -> Option<Amounts>
     requires { F.IsAlwaysCallable together }
 {
     let mut all = [0; 9];
-    for (place, (a, b)) in all.iter_mut().zip(one.iter().zip(other)) {
+    for (place, (a, b)) in all.iter_mut().zip(one.all().iter().zip(other.all())) {
         *place = together(*a, *b)?;
     }
-    Some(all)
-}
-
-fn total(amounts: &[i64; 9]) -> Option<i64> {
-    amounts
-        .iter()
-        .try_fold(0i64, |sum, amount| sum.checked_add(*amount))
+    Owners::new(&all)
 }
 
 // Our figures, in the order of the sheet's columns.
-fn reckoned() -> Option<[[i64; 9]; 13]> {
-    let rows = owners();
-    let table = Table::new(&rows).ok()?;
+fn reckoned() -> Option<[Amounts; 13]> {
+    let table = Table::new(&owners()).ok()?;
     let below = Volumetric::new(8).ok()?;
     let layer = Transition::new(below, 8, caps()).ok()?;
     let columns = layer.columns(&table);
-    let required = rows.map(|row| row.ehv);
-    let limits = caps().first_chunk()?.map(|cap| i64::from(cap));
-    let burdens = listed(&columns.burdens)?;
-    let adjusted = listed(&columns.adjusted)?;
-    let finals = listed(&columns.finals)?;
+    let required = table.by_owner().map(|row| row.ehv);
+    let limits = caps().first_chunk::<9>()?.map(|cap| i64::from(cap));
     Some([
-        paired(&burdens, &required, |a, b| a.checked_add(b))?,
+        paired(&columns.burdens, &required, |a, b| a.checked_add(b))?,
         required,
-        burdens,
-        burdens,
-        limits,
-        listed(&columns.headroom)?,
-        listed(&columns.excess)?,
-        listed(&columns.payments)?,
-        listed(&columns.mitigations)?,
-        adjusted,
-        paired(&finals, &adjusted, |a, b| a.checked_sub(b))?,
-        listed(&columns.charges)?,
-        finals,
+        columns.burdens,
+        columns.burdens,
+        Owners::new(&limits)?,
+        columns.headroom,
+        columns.excess,
+        columns.payments,
+        columns.mitigations,
+        columns.adjusted,
+        paired(&columns.finals, &columns.adjusted, |a, b| a.checked_sub(b))?,
+        columns.charges,
+        columns.finals,
     ])
 }
 
@@ -287,10 +273,12 @@ fn print_cell(
 }
 
 // Prints a column, the owners and then the total.
-fn print_column(rt: &impl Print, column: &Column, ours: &[i64; 9]) -> anyhow::Result<bool> {
-    let sum = total(ours).context("a total too large")?;
+fn print_column(rt: &impl Print, column: &Column, ours: &Amounts) -> anyhow::Result<bool> {
+    let sum = i64::try_from(ours.total())
+        .ok()
+        .context("a total too large")?;
     let totals = [sum];
-    let ours = ours.iter().chain(&totals);
+    let ours = ours.all().iter().chain(&totals);
     let cells = NAMES.iter().zip(column.figures.iter().zip(ours));
     let mut close = true;
     for (place, (owner, (figure, ours))) in cells.enumerate() {

@@ -3,13 +3,8 @@ use Rattle.std.specs.Int.{int_div_euclid}
 use Rattle.std.proofs.lemmas.Int.{to_z-of_z}
 use Rattle.charges.specs.PoolsLemmas.{product-within}
 use Rattle.charges.proofs.Portions.{portion-size}
-use Rattle.charges.proofs.Reckoning.{product-fits, product_is, small-fits}
+use Rattle.charges.proofs.Reckoning.{product_is, small-fits}
 use Rattle.charges.proofs.requirement.portion.Goals as goal
-
-pub overflow_mul-sum : goal.overflow_mul-sum
-overflow_mul-sum c =
-    product-fits c.args.sum c.from.result c.args.sum c.args.taken 5000000000 255
-    c.ranges.sum (record { sfits = c.from.type_inv }) refl c.from.ensures c.requires.sum (omega (arith, c.ranges.taken.fits)) (omega arith)
 
 pub returns : goal.returns
 returns c =

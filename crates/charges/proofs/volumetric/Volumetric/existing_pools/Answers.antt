@@ -4,9 +4,9 @@ use Rattle.charges.specs.Tables.{rows_of}
 use Rattle.charges.specs.Transition.{existing_grid}
 use Rattle.charges.proofs.volumetric.Volumetric.existing_pools.Goals as goal
 
-pub returns : goal.returns
-returns c =
+pub returns-clause-pools : goal.returns-clause-pools
+returns-clause-pools c =
     let k = c.args.self.now.tenths in
     let rows = rows_of c.args.table.now in
     let rest : existing_grid k rows +ℤ pos 0 ≡ existing_grid k rows = omega (arith, ints) in
-    record { pools = rw rest at c.pools_with.ensures.pools; within = c.pools_with.ensures.within }
+    rw rest at c.pools_with.ensures.pools
