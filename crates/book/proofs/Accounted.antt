@@ -19,7 +19,7 @@ use Rattle.book.specs.Workings.{Refusal, plain, Figures, Working, denied, worked
 use Rattle.book.proofs.Differences.{length-less, get_or-less}
 use Rattle.book.proofs.Force.{latest-push}
 use Rattle.book.proofs.Growing.{gathered-more, answered-more, sum-append, sum-elsewhere, sum-here, lines-in-order, lines-cents, sum_less, rolled-more}
-use Rattle.book.proofs.Postable.{lines_long}
+use Rattle.book.proofs.Postable.{lines_long, get_or-zeros}
 
 -- a posting that was granted
 record Billed (workedAt : ℕ → Working) (count journal n : ℕ) (mark : Option ℕ) (cents : List ℤ) : Type 0 where
@@ -58,11 +58,6 @@ known (worked v) nets e = let same : v.nets ≡ nets = cc in record { figures = 
 sum_zeros : (n : ℕ) → int_sum (replicate n (pos 0)) ≡ pos 0
 sum_zeros zero = refl
 sum_zeros (suc n) = omega (arith, ints, int_sum-cons (pos 0) (replicate n (pos 0)), sum_zeros n)
-
-get_or-zeros : (n k : ℕ) → get_or (replicate n (pos 0)) k (pos 0) ≡ pos 0
-get_or-zeros zero k = refl
-get_or-zeros (suc n) zero = refl
-get_or-zeros (suc n) (suc k) = get_or-zeros n k
 
 module _ (t : Terms) (h : List Event) (marks : List (Option ℕ)) (entries : List Noted) (room : ℕ) (rows : List Row) (free : ℕ) (a : Accounts t h marks entries room rows free) where
   -- a call that posts nothing

@@ -13,7 +13,9 @@ use Rattle.book.specs.Answers.{told, fault_of, granting}
 use Rattle.book.specs.Books.{areas_of, mark_of, Marked}
 use Rattle.book.specs.Calls.{count_of, entries_in, open_checks, opening_in, worked_after, opening_of, opened, drafted}
 use Rattle.book.specs.Checks.{answered, verdict, full, filing_checks, reading_checks}
-use Rattle.book.specs.Entries.{Filed, Metered, Noted, filed, metered}
+use Rattle.book.specs.Entries.{Noted, filed, metered}
+use Rattle.book.specs.declared.figures.Filed.{Filed}
+use Rattle.book.specs.declared.figures.Metered.{Metered}
 use Rattle.book.specs.Faults.{refusal}
 use Rattle.book.specs.Histories.{Request, Grant, Event, Terms, event_of, files, reads, opens, posts, withdraws, asks, entered, drew, posted, withdrawn, stands, entries_by, mark_by, owners, afresh, free_by, draws, answer_to, if_granted, entry_of, posting_of}
 use Rattle.book.specs.Journals.{entries_of, Enters, filing_in, reading_in}
@@ -128,10 +130,10 @@ module _ {C : Type 0} (meaning : ℕ → List OwnerRow → Outcome) (t : Terms) 
   pub opens_on : (month : ℕ) (draft draft' : List ℤ) (r : Result Opening BookFault)
       → told opening_of r ≡ opened month (count_of j) (opening_in meaning book j month (length draft))
       → draft' ≡ drafted (opening_in meaning book j month (length draft)) draft
-      → Account meaning t (h ++ event_of (opens month draft) (told (λ o. drew o.month o.count draft') r) ∷ []) book j rows free
+      → Account meaning t (h ++ event_of (opens month draft) (told (λ o. drew o.written.month o.written.count draft') r) ∷ []) book j rows free
   opens_on month draft draft' r is draft-is = quiet _ (drawn-by (told_working month (length draft)) r (is ∙ ap (λ w. opened month (count_of j) w) (same-working month (length draft)) ∙ ap (λ n. opened month n (told_working month (length draft))) count-is) (draft-is ∙ ap (λ w. drafted w draft) (same-working month (length draft)))) (nothing _) (nothing _)
     where
-      drawn-by : (w : Working) (r : Result Opening BookFault) → told opening_of r ≡ opened month (length (entries_by h)) w → draft' ≡ drafted w draft → told (λ o. drew o.month o.count draft') r ≡ draws month (length (entries_by h)) draft w
+      drawn-by : (w : Working) (r : Result Opening BookFault) → told opening_of r ≡ opened month (length (entries_by h)) w → draft' ≡ drafted w draft → told (λ o. drew o.written.month o.written.count draft') r ≡ draws month (length (entries_by h)) draft w
       drawn-by (denied f) (Ok o) e d = let z : ◌≡◌ {A = ℕ} 0 1 = cc in absurd (omega arith)
       drawn-by (denied f) (Err b) e d = let k : refusal b ≡ f = cc in ap Err k
       drawn-by (worked w) (Ok o) e d =

@@ -1,4 +1,5 @@
 -- What the weights and amounts of an adjustment keep to.
+use Rattle.charges.specs.Amounts.{AllBelow}
 use Rattle.std.proofs.Common.{◌≡◌, ℕ, ◌+◌, ◌<◌, ◌≤◌, Bool, true, false, cond, ◌⊎◌, List, [], ◌∷◌, map, length, get_or, ℤ, pos, negsuc, ◌+ℤ◌, ◌*ℤ◌, nat_abs, Some, None, Ok, Err, Result, ap, ◌∙◌, inl, inr, arith}
 use Rattle.std.proofs.lemmas.List.{get_or-map, get_or_past, length-map}
 use Rattle.std.proofs.lemmas.Int.{ints}
@@ -18,7 +19,6 @@ use Rattle.charges.specs.Rows.{nobody, Good, required_size}
 use Rattle.charges.specs.declared.table.OwnerRow.{OwnerRow}
 use Rattle.charges.specs.PoolsLemmas.{row_within, product-within}
 use Rattle.charges.specs.Scans.{all_pass}
-use Rattle.book.specs.Bounds.{AllWithin}
 use Rattle.book.specs.Workings.{weight_of, not_below, utility_rate, utility_amount, rate_check}
 
 not-below : (a b : ℤ) → not_below (a +ℤ b) ≤ nat_abs a + nat_abs b
@@ -43,7 +43,7 @@ hundredth a h = let f = nearest-rounds.greatest_not_above a 100 (omega arith) in
 amount-small : (r : OwnerRow) → nat_abs (utility_rate r) ≤ 10000000 → r.load ≤ 100000000 → nat_abs (utility_amount r) ≤ 10000000000000
 amount-small r p q = hundredth (utility_rate r *ℤ pos r.load) (omega (arith, product-within (utility_rate r) r.load 10000000 100000000 p q))
 
-pub amounts-small : (rows : List OwnerRow) → Good rows → first_fault (each_from rate_check 0 rows) ≡ None → AllWithin 10000000000000 (map utility_amount rows)
+pub amounts-small : (rows : List OwnerRow) → Good rows → first_fault (each_from rate_check 0 rows) ≡ None → AllBelow 10000000000000 (map utility_amount rows)
 amounts-small rows good clear k = by (cases_lt k (length rows))
   where
     by : (k < length rows) ⊎ (length rows ≤ k) → nat_abs (get_or (map utility_amount rows) k (pos 0)) ≤ 10000000000000
@@ -52,7 +52,7 @@ amounts-small rows good clear k = by (cases_lt k (length rows))
         rw is (amount-small (get_or rows k nobody) (ltb-false 10000000 _ (all_pass rate_check rows clear k nobody h)) (row_within rows good k h).used.2)
     by (inr h) = let is = get_or_past (map utility_amount rows) k (pos 0) (omega (arith, length-map rows utility_amount)) in rw is (omega arith)
 
-pub shares-small : (sum : ℤ) (weights : List ℕ) (limit : ℕ) → nat_abs sum ≤ limit → AllWithin limit (shares sum weights)
+pub shares-small : (sum : ℤ) (weights : List ℕ) (limit : ℕ) → nat_abs sum ≤ limit → AllBelow limit (shares sum weights)
 shares-small sum weights limit h k = omega (arith, share-magnitude shares running-divides sum weights k)
 
 -- the checks of the nets, as the code goes through them

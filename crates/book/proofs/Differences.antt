@@ -1,8 +1,6 @@
 -- Lists of differences.
-use Rattle.std.proofs.Common.{◌≡◌, ℕ, zero, suc, List, [], ◌∷◌, length, zip, get_or, ℤ, pos, ◌-ℤ◌, sym, refl, ap, ◌∙◌, arith}
-use Rattle.std.proofs.lemmas.Int.{ints}
+use Rattle.std.proofs.Common.{pos, ℕ, zero, get_or, ◌≡◌, suc, List, [], ◌∷◌, length, zip, ℤ, ◌-ℤ◌, sym, refl, ap, ◌∙◌, arith}
 use Rattle.charges.specs.Burdens.{along}
-use Rattle.book.specs.Bounds.{AllWithin}
 use Rattle.book.specs.Workings.{less}
 
 pub length-less : (xs ys : List ℤ) → length xs ≡ length ys → length (less xs ys) ≡ length xs
@@ -24,13 +22,6 @@ module _ (bills amounts shares : List ℤ) (same : length amounts ≡ length bil
 
   pub length-nets : length nets ≡ length bills
   length-nets = length-less (less bills amounts) shares (length-less bills amounts (sym same) ∙ sym as_many) ∙ length-less bills amounts (sym same)
-
-  pub get_or-nets : (k : ℕ) → get_or nets k (pos 0) ≡ (get_or bills k (pos 0) -ℤ get_or amounts k (pos 0)) -ℤ get_or shares k (pos 0)
-  get_or-nets k =
-      get_or-less (less bills amounts) shares k (length-less bills amounts (sym same) ∙ sym as_many) ∙ ap (λ z. z -ℤ get_or shares k (pos 0)) (get_or-less bills amounts k (sym same))
-
-  pub nets-small : AllWithin 10000000000000 bills → AllWithin 10000000000000 amounts → AllWithin 320000000000000 shares → AllWithin 340000000000000 nets
-  nets-small b a s k = rw (get_or-nets k) (omega (arith, ints, b k, a k, s k))
 
 -- the same, as the code takes them: the pairs of two lists beside a third
 pub nets-of-pairs : (bills amounts shares : List ℤ) → along (λ p s. p.0 -ℤ p.1 -ℤ s) (zip bills amounts) shares ≡ less (less bills amounts) shares

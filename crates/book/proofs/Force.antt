@@ -1,7 +1,7 @@
 -- The entries in force, one entry more.
-use Rattle.std.proofs.Common.{◌≡◌, ℕ, ◌<◌, ◌≤◌, Bool, true, false, cond, ◌&&◌, eqb, ◌⊎◌, List, [], ◌∷◌, ◌++◌, length, get_or, take, set, Some, None, Option, sym, refl, ap, ◌∙◌, inl, inr, arith}
+use Rattle.std.proofs.Common.{◌≡◌, ℕ, ◌<◌, Bool, true, false, cond, ◌&&◌, eqb, ◌⊎◌, List, [], ◌∷◌, ◌++◌, length, get_or, set, Some, None, Option, sym, refl, ap, ◌∙◌, inl, inr, arith}
 use Rattle.std.specs.Option.{option_map}
-use Rattle.std.proofs.lemmas.List.{get_or-set_same, get_or-set_other, get_or_default, get_or-take, length-take-le, length-set}
+use Rattle.std.proofs.lemmas.List.{get_or-set_same, get_or-set_other, get_or_default, length-set}
 use Rattle.std.proofs.lemmas.Bool.{cases_eq, eq-eqb, ne_eqb, and_from, and_left, and_right}
 use Rattle.book.specs.Entries.{Noted, filed, metered, covers, touches, filing_for, reading_for, or_else, latest}
 use Rattle.book.specs.Forces.{InForce, nothing}
@@ -56,24 +56,24 @@ kept meaning held xs s at d long same owner before e = by (cases_eq at owner)
     by (inr n) = ap (λ t. option_map meaning (held t)) (get_or-set_other xs at owner s nothing (λ q. n (sym q))) ∙ e
 
 module _ (xs : List Standing) (month : ℕ) (entries : List Noted) (i : InForce xs month entries) where
-  pub force-filing : (f : Filing) (d : Standing) → f.owner < length xs → covers month (filed_of f) ≡ true
-      → InForce (set xs f.owner (record { filing = Some f; reading = (get_or xs f.owner d).reading })) month (entries ++ filed (filed_of f) ∷ [])
+  pub force-filing : (f : Filing) (d : Standing) → f.figures.owner < length xs → covers month (filed_of f) ≡ true
+      → InForce (set xs f.figures.owner (record { filing = Some f; reading = (get_or xs f.figures.owner d).reading })) month (entries ++ filed (filed_of f) ∷ [])
   force-filing f d long c =
-      let s : Standing = record { filing = Some f; reading = (get_or xs f.owner d).reading } in
-      let many : length (set xs f.owner s) ≡ length xs = length-set xs f.owner s in
+      let s : Standing = record { filing = Some f; reading = (get_or xs f.figures.owner d).reading } in
+      let many : length (set xs f.figures.owner s) ≡ length xs = length-set xs f.figures.owner s in
       record {
-        filings = λ o h. one_set filed_of (λ t. t.filing) xs f s refl f.owner long (covers month (filed_of f)) c o (latest (filing_for month o) entries) (i.filings o (omega (arith, many, h))) ∙ sym (latest-push (filing_for month o) entries (filed (filed_of f)));
-        readings = λ o h. kept metered_of (λ t. t.reading) xs s f.owner d long refl o (latest (reading_for month o) entries) (i.readings o (omega (arith, many, h))) ∙ not-picked (reading_for month o) entries (filed (filed_of f)) refl;
+        filings = λ o h. one_set filed_of (λ t. t.filing) xs f s refl f.figures.owner long (covers month (filed_of f)) c o (latest (filing_for month o) entries) (i.filings o (omega (arith, many, h))) ∙ sym (latest-push (filing_for month o) entries (filed (filed_of f)));
+        readings = λ o h. kept metered_of (λ t. t.reading) xs s f.figures.owner d long refl o (latest (reading_for month o) entries) (i.readings o (omega (arith, many, h))) ∙ not-picked (reading_for month o) entries (filed (filed_of f)) refl;
       }
 
-  pub force_reading : (r : Reading) (d : Standing) → r.owner < length xs → eqb r.month month ≡ true
-      → InForce (set xs r.owner (record { filing = (get_or xs r.owner d).filing; reading = Some r })) month (entries ++ metered (metered_of r) ∷ [])
+  pub force_reading : (r : Reading) (d : Standing) → r.figures.owner < length xs → eqb r.figures.month month ≡ true
+      → InForce (set xs r.figures.owner (record { filing = (get_or xs r.figures.owner d).filing; reading = Some r })) month (entries ++ metered (metered_of r) ∷ [])
   force_reading r d long c =
-      let s : Standing = record { filing = (get_or xs r.owner d).filing; reading = Some r } in
-      let many : length (set xs r.owner s) ≡ length xs = length-set xs r.owner s in
+      let s : Standing = record { filing = (get_or xs r.figures.owner d).filing; reading = Some r } in
+      let many : length (set xs r.figures.owner s) ≡ length xs = length-set xs r.figures.owner s in
       record {
-        filings = λ o h. kept filed_of (λ t. t.filing) xs s r.owner d long refl o (latest (filing_for month o) entries) (i.filings o (omega (arith, many, h))) ∙ not-picked (filing_for month o) entries (metered (metered_of r)) refl;
-        readings = λ o h. one_set metered_of (λ t. t.reading) xs r s refl r.owner long (eqb r.month month) c o (latest (reading_for month o) entries) (i.readings o (omega (arith, many, h))) ∙ sym (latest-push (reading_for month o) entries (metered (metered_of r)));
+        filings = λ o h. kept filed_of (λ t. t.filing) xs s r.figures.owner d long refl o (latest (filing_for month o) entries) (i.filings o (omega (arith, many, h))) ∙ not-picked (filing_for month o) entries (metered (metered_of r)) refl;
+        readings = λ o h. one_set metered_of (λ t. t.reading) xs r s refl r.figures.owner long (eqb r.figures.month month) c o (latest (reading_for month o) entries) (i.readings o (omega (arith, many, h))) ∙ sym (latest-push (reading_for month o) entries (metered (metered_of r)));
       }
 
   -- an entry that does not touch the month changes nothing
@@ -88,12 +88,3 @@ module _ (xs : List Standing) (month : ℕ) (entries : List Noted) (i : InForce 
         filings = λ o h. i.filings o h ∙ not-picked (filing_for month o) entries (metered r) refl;
         readings = λ o h. i.readings o h ∙ not-picked (reading_for month o) entries (metered r) (away (eqb r.owner o) r (eqb r.month month) c);
       }
-
--- the first owners' standings are in force as all are
-pub in-force-front : (xs : List Standing) (n month : ℕ) (entries : List Noted) → n ≤ length xs → InForce xs month entries → InForce (take n xs) month entries
-in-force-front xs n month entries h i =
-    let long : length (take n xs) ≡ n = length-take-le n xs h in
-    record {
-      filings = λ o k. ap (λ (s : Standing). option_map filed_of s.filing) (get_or-take n xs o nothing (omega (arith, long, k))) ∙ i.filings o (omega (arith, long, k));
-      readings = λ o k. ap (λ (s : Standing). option_map metered_of s.reading) (get_or-take n xs o nothing (omega (arith, long, k))) ∙ i.readings o (omega (arith, long, k));
-    }

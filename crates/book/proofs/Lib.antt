@@ -6,7 +6,6 @@ pub mod Tabling
 pub mod Outcomes
 pub mod Granting
 pub mod Opened
-pub mod Posted
 pub mod Postable
 pub mod Growing
 pub mod Accounted

@@ -1,4 +1,5 @@
 -- A month's checks as the code goes through them, and what working out then answers.
+use Rattle.charges.specs.Amounts.{AllBelow}
 use Rattle.std.proofs.Common.{◌≡◌, ℕ, ◌<◌, ◌≤◌, Bool, true, false, cond, ◌⊎◌, List, [], ◌∷◌, ◌++◌, length, get_or, ℤ, pos, nat_abs, Some, None, Err, Result, sym, ap, ◌∙◌, inl, inr, arith}
 use Rattle.std.specs.List.{AllByRecursion}
 use Rattle.std.proofs.ByRecursion.{All-get_or}
@@ -9,7 +10,6 @@ use Rattle.charges.specs.Outcomes.{Outcome, refused, billed, Small}
 use Rattle.charges.specs.declared.table.OwnerRow.{OwnerRow}
 use Rattle.charges.specs.Answered.{first_fault-pass, first_fault-stop}
 use Rattle.book.specs.Answers.{nets_answer}
-use Rattle.book.specs.Bounds.{AllWithin}
 use Rattle.book.specs.Entries.{Noted}
 use Rattle.book.specs.Workings.{Refusal, plain, filing_check, reading_check, totals_check, table_checks, rows_from, charged, settled, netted, net_checks, worked_out}
 
@@ -56,7 +56,7 @@ module _ (meaning : ℕ → List OwnerRow → Outcome) (areas : List ℕ) (month
         pub nets-follow : (parts bills : List ℤ) (r : Result (List ℤ) Refusal) → billed parts bills ≡ meaning month rows → r ≡ nets_answer (netted (first_fault (net_checks rows bills)) rows parts bills) → r ≡ answer
         nets-follow parts bills r e is = is ∙ ap (λ o. nets_answer (settled o rows)) e ∙ goes_on
 
-pub bills-within : (bills : List ℤ) → AllByRecursion Small bills → AllWithin 10000000000000 bills
+pub bills-within : (bills : List ℤ) → AllByRecursion Small bills → AllBelow 10000000000000 bills
 bills-within bills all k = by (cases_lt k (length bills))
   where
     by : (k < length bills) ⊎ (length bills ≤ k) → nat_abs (get_or bills k (pos 0)) ≤ 10000000000000

@@ -1,5 +1,5 @@
 -- What posting an opening comes to, as the code goes through its checks.
-use Rattle.std.proofs.Common.{zero, pos, replicate, nat_abs, ◌≡◌, ℕ, suc, ◌<◌, ◌≤◌, min, Bool, true, false, cond, eqb, ltb, ◌⊎◌, List, [], ◌∷◌, map, length, get_or, take, set, ℤ, Some, None, Ok, Err, Option, Result, Vec, sym, refl, ap, ◌∙◌, inl, inr, arith}
+use Rattle.std.proofs.Common.{zero, pos, replicate, ◌≡◌, ℕ, suc, ◌<◌, ◌≤◌, min, Bool, true, false, cond, eqb, ltb, ◌⊎◌, List, [], ◌∷◌, map, length, get_or, take, set, ℤ, Some, None, Ok, Err, Option, Result, Vec, sym, refl, ap, ◌∙◌, inl, inr, arith}
 use Rattle.std.proofs.lemmas.List.{take-map, take-take, take_all, length-take, get_or-set_same, get_or-set_other}
 use Rattle.std.proofs.lemmas.Bool.{cases_lt, lt-ltb, le-ltb, eqb-true, eqb-false}
 use Rattle.std.specs.declared.alloc.Global.{Global}
@@ -49,26 +49,12 @@ module _ {C : Type 0} (meaning : ℕ → List OwnerRow → Outcome) (book : Book
   pub beyond : journal < n → answer ≡ Err (plain 16)
   beyond h = let e : ltb journal n ≡ true = lt-ltb journal n h in rw e refl
 
-  module _ (low : n ≤ journal) where
-    pub untouched : current ≡ true → answer ≡ Err (plain 17)
-    untouched h = let e : ltb journal n ≡ false = le-ltb journal n low in rw (e, h) refl
+  module _ (low : n ≤ journal) (due : current ≡ false) (new old : List ℤ) (p : nets_answer (workedAt n) ≡ Ok new) (q : before ≡ Ok old) where
+    clear : answer ≡ cents_of None (Ok new) (Ok old) (ltb free owners)
+    clear = let e : ltb journal n ≡ false = le-ltb journal n low in rw (e, due, p, q) refl
 
-    module _ (due : current ≡ false) where
-      clear : (new old : Result (List ℤ) Refusal) → nets_answer (workedAt n) ≡ new → before ≡ old → answer ≡ cents_of None new old (ltb free owners)
-      clear new old p q = let e : ltb journal n ≡ false = le-ltb journal n low in rw (e, due, p, q) refl
-
-      pub new-denied : (f : Refusal) → nets_answer (workedAt n) ≡ Err f → answer ≡ Err f
-      new-denied f p = clear (Err f) before p refl
-
-      pub old-denied : (new : List ℤ) (f : Refusal) → nets_answer (workedAt n) ≡ Ok new → before ≡ Err f → answer ≡ Err f
-      old-denied new f p q = clear (Ok new) (Err f) p q
-
-      module _ (new old : List ℤ) (p : nets_answer (workedAt n) ≡ Ok new) (q : before ≡ Ok old) where
-        pub short : free < owners → answer ≡ Err (plain 18)
-        short h = clear (Ok new) (Ok old) p q ∙ ap (cents_of None (Ok new) (Ok old)) (lt-ltb free owners h)
-
-        pub granted : owners ≤ free → answer ≡ Ok (less new old)
-        granted h = clear (Ok new) (Ok old) p q ∙ ap (cents_of None (Ok new) (Ok old)) (le-ltb free owners h)
+    pub granted : owners ≤ free → answer ≡ Ok (less new old)
+    granted h = clear ∙ ap (cents_of None (Ok new) (Ok old)) (le-ltb free owners h)
 
 -- marks of which none or one is changed
 pub mark-kept : (marks : List (Option ℕ)) (month m : ℕ) → get_or marks m None ≡ cond (eqb m month) (get_or marks month None) (get_or marks m None)
@@ -83,10 +69,10 @@ pub zeros-are : {X : Type 0} (xs : List X) → map (λ _. pos 0) xs ≡ replicat
 zeros-are [] = refl
 zeros-are (x ∷ xs) = ap (λ rest. pos 0 ∷ rest) (zeros-are xs)
 
-pub zeros_within : (n k limit : ℕ) → nat_abs (get_or (replicate n (pos 0)) k (pos 0)) ≤ limit
-zeros_within zero k limit = omega arith
-zeros_within (suc n) zero limit = omega arith
-zeros_within (suc n) (suc k) limit = zeros_within n k limit
+pub get_or-zeros : (n k : ℕ) → get_or (replicate n (pos 0)) k (pos 0) ≡ pos 0
+get_or-zeros zero k = refl
+get_or-zeros (suc n) zero = refl
+get_or-zeros (suc n) (suc k) = get_or-zeros n k
 
 pub mark_set : (marks : List (Option ℕ)) (month n m : ℕ) → month < length marks → get_or (set marks month (Some n)) m None ≡ cond (eqb m month) (Some n) (get_or marks m None)
 mark_set marks month n m h = by (eqb m month) refl

@@ -1,13 +1,13 @@
 -- What the answers of working out tell.
 use Rattle.std.specs.Prelude.{List, ℤ, Some, None, Ok, Err, Option, Result}
 use Rattle.charges.specs.Amounts.{amounts_of}
-use Rattle.charges.specs.declared.owners.Owners.{Owners}
 use Rattle.book.specs.Faults.{refusal}
 use Rattle.book.specs.Workings.{Refusal, Working, denied, worked}
 use Rattle.book.specs.declared.fault.BookFault.{BookFault}
+use Rattle.book.specs.declared.nets.Nets.{Nets}
 
-abbrev pub nets_in : Owners ℤ → List ℤ
-nets_in n = amounts_of n
+abbrev pub nets_in : Nets → List ℤ
+nets_in n = amounts_of n.amounts
 
 -- an answer by what its value means
 abbrev pub told : {X Y : Type 0} → (X → Y) → Result X BookFault → Result Y Refusal

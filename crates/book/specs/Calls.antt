@@ -40,7 +40,7 @@ opening_in meaning book journal month places =
 
 -- an opening holds month and count
 abbrev pub opening_of : Opening → ℕ × ℕ
-opening_of o = (o.month, o.count)
+opening_of o = (o.written.month, o.written.count)
 
 abbrev pub opened : ℕ → ℕ → Working → Result (ℕ × ℕ) Refusal
 opened month count (denied f) = Err f

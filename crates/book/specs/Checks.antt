@@ -1,7 +1,8 @@
 -- What each call of the book checks, in the order in which the checks are made.
 use Rattle.std.specs.Prelude.{ℕ, Bool, not, ◌||◌, ltb, List, [], ◌∷◌, ◌++◌, length, Some, None, Ok, Err, Option, Result, ◌==◌, nat_le, nat_lt, unsigned_abs}
 use Rattle.charges.specs.Checks.{Check, first_fault, any_by}
-use Rattle.book.specs.Entries.{Filed, Metered}
+use Rattle.book.specs.declared.figures.Filed.{Filed}
+use Rattle.book.specs.declared.figures.Metered.{Metered}
 use Rattle.book.specs.Workings.{Refusal, plain}
 
 -- granted with an answer where no check fails, else denied with the first that does

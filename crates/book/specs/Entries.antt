@@ -1,22 +1,7 @@
--- What an entry of the journal says, which months it touches, and which entries are in force.
-use Rattle.std.specs.Prelude.{ℕ, Bool, cond, ◌&&◌, List, [], ◌∷◌, ℤ, Some, None, Option, ◌==◌, nat_le}
-
--- a filing: an owner's yearly requirement for existing and for new facilities, and what it files of load and peak, from a first to a last month
-pub record Filed : Type 0 where
-  pub owner : ℕ
-  pub first : ℕ
-  pub last : ℕ
-  pub ehv : ℤ
-  pub nhv : ℤ
-  pub load : ℕ
-  pub peak : ℕ
-
--- a reading: an owner's load and peak in a month
-pub record Metered : Type 0 where
-  pub month : ℕ
-  pub owner : ℕ
-  pub load : ℕ
-  pub peak : ℕ
+-- What an entry of the journal says, a filing or a reading, which months it touches, and which entries are in force.
+use Rattle.std.specs.Prelude.{ℕ, Bool, cond, ◌&&◌, List, [], ◌∷◌, Some, None, Option, ◌==◌, nat_le}
+use Rattle.book.specs.declared.figures.Filed.{Filed}
+use Rattle.book.specs.declared.figures.Metered.{Metered}
 
 pub data Noted : Type 0 where
   filed : Filed → Noted

@@ -6,7 +6,9 @@ use Rattle.charges.specs.declared.table.OwnerRow.{OwnerRow}
 use Rattle.book.specs.Answers.{granting}
 use Rattle.book.specs.Calls.{open_checks, worked_after, drafted}
 use Rattle.book.specs.Checks.{filing_checks, reading_checks, verdict}
-use Rattle.book.specs.Entries.{Filed, Metered, Noted, filed, metered, latest}
+use Rattle.book.specs.Entries.{Noted, filed, metered, latest}
+use Rattle.book.specs.declared.figures.Filed.{Filed}
+use Rattle.book.specs.declared.figures.Metered.{Metered}
 use Rattle.book.specs.Postings.{posting}
 use Rattle.book.specs.States.{MonthState, state_of, state_checks}
 use Rattle.book.specs.Workings.{Refusal, Working, denied, worked, worked_out}

@@ -3,7 +3,9 @@ use Rattle.std.specs.Prelude.{◌≡◌, ℕ, List, [], ◌∷◌, ◌++◌, map
 use Rattle.std.specs.declared.alloc.Global.{Global}
 use Rattle.book.specs.Books.{areas_of}
 use Rattle.book.specs.Checks.{filing_checks, reading_checks, verdict}
-use Rattle.book.specs.Entries.{Filed, Metered, Noted}
+use Rattle.book.specs.Entries.{Noted}
+use Rattle.book.specs.declared.figures.Filed.{Filed}
+use Rattle.book.specs.declared.figures.Metered.{Metered}
 use Rattle.book.specs.Meaning.{noted}
 use Rattle.book.specs.Workings.{Refusal}
 use Rattle.book.specs.declared.book.Book.{Book}

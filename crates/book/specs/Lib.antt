@@ -5,7 +5,6 @@ pub mod Forces
 pub mod Workings
 pub mod Faults
 pub mod Answers
-pub mod Bounds
 pub mod Books
 pub mod Checks
 pub mod Journals

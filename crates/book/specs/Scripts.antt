@@ -1,8 +1,7 @@
 -- What a script's calls and the answers to them mean.
-use Rattle.std.specs.Prelude.{ℕ, List, [], ◌∷◌, replicate, ℤ, pos, Result}
+use Rattle.std.specs.Prelude.{ℕ, List, [], ◌∷◌, ◌++◌, decimal, replicate, ℤ, pos, Result}
 use Rattle.book.specs.Answers.{told}
 use Rattle.book.specs.Histories.{Request, Grant, Event, event_of, files, reads, opens, posts, withdraws, asks, entered, drew, posted, withdrawn, stands}
-use Rattle.book.specs.Meaning.{filed_as, metered_as}
 use Rattle.book.specs.States.{state_as}
 use Rattle.book.specs.declared.call.Call.{Call}
 use Rattle.book.specs.declared.call.Call.TheVariants.{File, Read, Open, Post, Withdraw, State}
@@ -15,13 +14,17 @@ use Rattle.book.specs.declared.written.Written.{Written}
 abbrev pub written_as : Written → ℕ × ℕ
 written_as w = (w.month, w.count)
 
+-- and as text, one space between
+abbrev pub written_text : Written → List ℕ
+written_text w = decimal w.month ++ (32 ∷ decimal w.count)
+
 -- a month is opened with a draft list of sixteen places
 abbrev pub empty_draft : List ℤ
 empty_draft = replicate 16 (pos 0)
 
 abbrev pub request_of : Call → Request
-request_of (File owner first last ehv nhv load peak) = files (filed_as owner first last ehv nhv load peak)
-request_of (Read month owner load peak) = reads (metered_as month owner load peak)
+request_of (File figures) = files figures
+request_of (Read figures) = reads figures
 request_of (Open month) = opens month empty_draft
 request_of (Post w) = posts w.month w.count
 request_of (Withdraw w) = withdraws w.month w.count
@@ -29,7 +32,7 @@ request_of (State month) = asks month
 
 abbrev pub grant_of : Reply → Grant
 grant_of (Entered number) = entered number
-grant_of (Opened month count draft) = drew month count draft
+grant_of (Opened opening draft) = drew opening.month opening.count draft
 grant_of Posted = posted
 grant_of Withdrawn = withdrawn
 grant_of (Stands s) = stands (state_as s)

@@ -10,21 +10,21 @@ use crate::opening::Opening;
 impl Opening {
     // The month that was opened.
     pub fn month(&self) -> u16
-        ensures { result ≡ self.now.month }
+        ensures { result ≡ self.now.written.month }
     {
-        self.month
+        self.written.month()
     }
 
     // How many entries it was worked out from.
     pub fn count(&self) -> u16
-        ensures { result ≡ self.now.count }
+        ensures { result ≡ self.now.written.count }
     {
-        self.count
+        self.written.count()
     }
 
     // Ends the opening and does nothing else.
     pub fn withdraw(mut self)
-        ensures law { (t : Terms) (h : List Event) (marks : List (Option ℕ)) (entries : List Noted) (room : ℕ) (rows : List Row) (free : ℕ) → Accounts t h marks entries room rows free → Accounts t (h ++ event_of (withdraws self.month self.count) (Ok withdrawn) ∷ []) marks entries room rows free }
+        ensures law { (t : Terms) (h : List Event) (marks : List (Option ℕ)) (entries : List Noted) (room : ℕ) (rows : List Row) (free : ℕ) → Accounts t h marks entries room rows free → Accounts t (h ++ event_of (withdraws self.written.month self.written.count) (Ok withdrawn) ∷ []) marks entries room rows free }
     {
         self.spent = true;
     }

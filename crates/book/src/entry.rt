@@ -1,26 +1,19 @@
-// The entries of a journal: what owners file, and what their meters read.
+// The entries of a journal: what owners filed and what their meters read, within its limits.
 ghost use Rattle.book.specs.Limits.{SpanWithin, FiguresWithin, ReadingWithin};
+
+use crate::figures::{Filed, Metered};
 
 #[derive(Clone, Copy)]
 pub struct Filing {
-    pub(crate) owner: u8,
-    pub(crate) first: u16,
-    pub(crate) last: u16,
-    pub(crate) ehv: i64,
-    pub(crate) nhv: i64,
-    pub(crate) load: u32,
-    pub(crate) peak: u32,
-    ghost span: { SpanWithin owner first last },
-    ghost figures: { FiguresWithin ehv nhv load peak },
+    pub(crate) figures: Filed,
+    ghost span: { SpanWithin figures.owner figures.first figures.last },
+    ghost within: { FiguresWithin figures.ehv figures.nhv figures.load figures.peak },
 }
 
 #[derive(Clone, Copy)]
 pub struct Reading {
-    pub(crate) month: u16,
-    pub(crate) owner: u8,
-    pub(crate) load: u32,
-    pub(crate) peak: u32,
-    ghost within: { ReadingWithin month owner load peak },
+    pub(crate) figures: Metered,
+    ghost within: { ReadingWithin figures.month figures.owner figures.load figures.peak },
 }
 
 #[derive(Clone, Copy)]

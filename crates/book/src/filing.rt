@@ -1,5 +1,5 @@
 // Filing and reading: one entry more in the journal, or a refusal.
-ghost use Rattle.std.specs.Prelude.{◌≡◌, ◌||◌, [], ◌∷◌, length, vec_len, vec_capacity, nat_lt};
+ghost use Rattle.std.specs.Prelude.{◌≡◌, ◌<◌, ◌≤◌, ◌||◌, [], ◌∷◌, length, vec_len, vec_capacity, MatchResult, nat_lt};
 ghost use Rattle.book.specs.Accounts.{Follows};
 ghost use Rattle.book.specs.Answers.{told};
 ghost use Rattle.book.specs.Books.{areas_of};
@@ -7,33 +7,36 @@ ghost use Rattle.book.specs.Checks.{filing_limits, reading_limits, room_check, f
 ghost use Rattle.book.specs.Entries.{filed, metered};
 ghost use Rattle.book.specs.Histories.{entered, event_of, files, reads};
 ghost use Rattle.book.specs.Journals.{Enters, filing_in, reading_in};
-ghost use Rattle.book.specs.Meaning.{filed_as, filed_of, metered_as, metered_of, noted};
+ghost use Rattle.book.specs.Meaning.{filed_of, metered_of, noted};
+ghost use Rattle.book.specs.declared.fault.BookFault.TheVariants.{UnknownOwner};
 
 use crate::book::Book;
 use crate::entry::{Entry, Filing, Reading};
 use crate::fault::BookFault;
+use crate::figures::{Filed, Metered};
+use crate::limits::{LAST_MONTH, MOST_ENTRIES};
 use charges::Charge;
 
 // Whether the months are none, or the first comes after the last.
 fn outside_months(first: u16, last: u16) -> bool
     ensures { result ≡ (nat_lt 359 first || (nat_lt 359 last || nat_lt last first)) }
 {
-    first > 359 || last > 359 || last < first
+    first > LAST_MONTH || last > LAST_MONTH || last < first
 }
 
 // Whether a figure of a filing is outside its limits.
-fn outside_filing(ehv: i64, nhv: i64, load: u32, peak: u32) -> bool
-    ensures { result ≡ outside_filing (filed_as 0 0 0 ehv nhv load peak) }
+fn outside_filing(f: &Filed) -> bool
+    ensures { result ≡ outside_filing f.now }
 {
-    let far = ehv.unsigned_abs() > 2_000_000_000 || nhv.unsigned_abs() > 2_000_000_000;
-    far || load > 180_000_000 || peak > 1_000_000
+    let far = f.ehv.unsigned_abs() > 2_000_000_000 || f.nhv.unsigned_abs() > 2_000_000_000;
+    far || f.load > 180_000_000 || f.peak > 1_000_000
 }
 
 // Whether the journal takes no more entries.
 fn is_full(journal: &Vec<Entry>) -> bool
     ensures { result ≡ full (vec_len journal.now) (vec_capacity journal.now) }
 {
-    journal.len() >= 8192 || journal.len() >= journal.capacity()
+    journal.len() >= usize::from(MOST_ENTRIES) || journal.len() >= journal.capacity()
 }
 
 // Enters one entry, if the journal takes one more, and answers its number.
@@ -50,96 +53,61 @@ fn enter(journal: &mut Vec<Entry>, entry: Entry) -> Result<usize, BookFault>
 }
 
 impl<C: Charge> Book<C> {
-    // A filing of one of the owners, within its limits.
-    fn filing(
-        &self,
-        owner: u8,
-        first: u16,
-        last: u16,
-        ehv: i64,
-        nhv: i64,
-        load: u32,
-        peak: u32,
-    ) -> Result<Filing, BookFault>
-        ensures { told filed_of result ≡ verdict (filed_as owner first last ehv nhv load peak) (filing_limits (length (areas_of self.now)) (filed_as owner first last ehv nhv load peak)) }
+    // Turns away an owner that the book has not.
+    fn known(&self, owner: u8) -> Result<(), BookFault>
+        ensures { MatchResult result (λ _. owner < length (areas_of self.now)) (λ e. (length (areas_of self.now) ≤ owner) × (e ≡ UnknownOwner)) }
     {
         if usize::from(owner) >= self.areas.count() {
             return Err(BookFault::UnknownOwner);
         }
-        if outside_months(first, last) {
+        Ok(())
+    }
+
+    // A filing of one of the owners, within its limits.
+    fn filing(&self, figures: Filed) -> Result<Filing, BookFault>
+        ensures { told filed_of result ≡ verdict figures (filing_limits (length (areas_of self.now)) figures) }
+    {
+        self.known(figures.owner)?;
+        if outside_months(figures.first, figures.last) {
             return Err(BookFault::Month);
         }
-        if outside_filing(ehv, nhv, load, peak) {
+        if outside_filing(&figures) {
             return Err(BookFault::Figure);
         }
-        Ok(Filing {
-            owner,
-            first,
-            last,
-            ehv,
-            nhv,
-            load,
-            peak,
-        })
+        Ok(Filing { figures })
     }
 
     // A reading of one of the owners, within its limits.
-    fn reading(&self, month: u16, owner: u8, load: u32, peak: u32) -> Result<Reading, BookFault>
-        ensures { told metered_of result ≡ verdict (metered_as month owner load peak) (reading_limits (length (areas_of self.now)) (metered_as month owner load peak)) }
+    fn reading(&self, figures: Metered) -> Result<Reading, BookFault>
+        ensures { told metered_of result ≡ verdict figures (reading_limits (length (areas_of self.now)) figures) }
     {
-        if usize::from(owner) >= self.areas.count() {
-            return Err(BookFault::UnknownOwner);
-        }
-        if month > 359 {
+        self.known(figures.owner)?;
+        if figures.month > LAST_MONTH {
             return Err(BookFault::Month);
         }
-        if load > 100_000_000 || peak > 100_000 {
+        if figures.load > 100_000_000 || figures.peak > 100_000 {
             return Err(BookFault::Figure);
         }
-        Ok(Reading {
-            month,
-            owner,
-            load,
-            peak,
-        })
+        Ok(Reading { figures })
     }
 
     // Enters an owner's filing from a first to a last month, and answers the entry's number.
-    // As it is: a public signature with its tests; the figures stand in the order of the office's script.
-    pub fn file(
-        &self,
-        journal: &mut Vec<Entry>,
-        owner: u8,
-        first: u16,
-        last: u16,
-        ehv: i64,
-        nhv: i64,
-        load: u32,
-        peak: u32,
-    ) -> Result<usize, BookFault>
-        ensures answer { told (λ i. i) result ≡ filing_in self.now journal.old (filed_as owner first last ehv nhv load peak) }
-        ensures journal { Enters (filed (filed_as owner first last ehv nhv load peak)) result journal.old journal.new }
-        ensures law { Follows (C.meaning self.now.charge) (event_of (files (filed_as owner first last ehv nhv load peak)) (told entered result)) self.now journal.old journal.new }
+    pub fn file(&self, journal: &mut Vec<Entry>, figures: Filed) -> Result<usize, BookFault>
+        ensures answer { told (λ i. i) result ≡ filing_in self.now journal.old figures }
+        ensures journal { Enters (filed figures) result journal.old journal.new }
+        ensures law { Follows (C.meaning self.now.charge) (event_of (files figures) (told entered result)) self.now journal.old journal.new }
     {
-        let filing = self.filing(owner, first, last, ehv, nhv, load, peak)?;
+        let filing = self.filing(figures)?;
         enter(journal, Entry::Filing(filing))
     }
 
     // Enters an owner's reading of a month, and answers the entry's number.
-    // As it is: the figures one by one, as in `file`.
-    pub fn read(
-        &self,
-        journal: &mut Vec<Entry>,
-        month: u16,
-        owner: u8,
-        load: u32,
-        peak: u32,
-    ) -> Result<usize, BookFault>
-        ensures answer { told (λ i. i) result ≡ reading_in self.now journal.old (metered_as month owner load peak) }
-        ensures journal { Enters (metered (metered_as month owner load peak)) result journal.old journal.new }
-        ensures law { Follows (C.meaning self.now.charge) (event_of (reads (metered_as month owner load peak)) (told entered result)) self.now journal.old journal.new }
+    pub fn read(&self, journal: &mut Vec<Entry>, figures: Metered) -> Result<usize, BookFault>
+        ensures answer { told (λ i. i) result ≡ reading_in self.now journal.old figures }
+        ensures journal { Enters (metered figures) result journal.old journal.new }
+        ensures law { Follows (C.meaning self.now.charge) (event_of (reads figures) (told entered result)) self.now journal.old journal.new }
     {
-        let reading = self.reading(month, owner, load, peak)?;
+        let reading = self.reading(figures)?;
         enter(journal, Entry::Reading(reading))
     }
 }

@@ -1,14 +1,14 @@
 // A month opened for billing: the month, and how many entries it was worked out from.
 ghost use Rattle.std.specs.Prelude.{◌≡◌, ◌≤◌, true};
 
+use crate::written::Written;
+
 // An opening is owed a posting or a withdrawal: it may be let go only once one of them has spent it.
-// As it is: a rule of the project: the token keeps `spent`, which its Drop requires.
+// As it is: a rule of the project: a promise of `open` speaks of `spent`, and a planted bug hands out a token that is spent already.
 pub struct Opening {
-    pub(crate) month: u16,
-    pub(crate) count: u16,
+    pub(crate) written: Written,
     pub(crate) spent: bool,
-    ghost month_within: { month ≤ 359 },
-    ghost count_within: { count ≤ 8192 },
+    ghost within: { written.count ≤ 8192 },
 }
 
 impl Drop for Opening {
@@ -16,8 +16,7 @@ impl Drop for Opening {
         requires { self.spent ≡ true }
     {
         let Opening {
-            month: _,
-            count: _,
+            written: _,
             spent: _,
         } = self;
     }

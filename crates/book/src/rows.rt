@@ -17,22 +17,22 @@ use crate::standings::Standing;
 use charges::{OwnerRow, Owners, Table};
 
 // Turns the month away where an owner has no filing in force, by the first such owner.
-pub(crate) fn all_filed(standings: &[Standing]) -> Result<(), BookFault>
-    requires { length standings.now ≤ 16 }
-    ensures { (month : ℕ) (entries : List Noted) (areas : List ℕ) → InForce standings.now month entries → length areas ≡ length standings.now → fault_of (told (λ x. x) result) ≡ first_fault (each_from (filing_check month entries) 0 areas) }
+// As it is: one function for the three would take the fault as a closure, which is as long as this match; as map_or it gets no proof alone.
+pub(crate) fn all_filed(standings: &Owners<Standing>) -> Result<(), BookFault>
+    ensures { (month : ℕ) (entries : List Noted) (areas : List ℕ) → InForce (items_of standings.now) month entries → length areas ≡ length (items_of standings.now) → fault_of (told (λ x. x) result) ≡ first_fault (each_from (filing_check month entries) 0 areas) }
 {
-    match standings.iter().position(|s| s.filing.is_none()) {
+    match standings.all().iter().position(|s| s.filing.is_none()) {
         Some(owner) => Err(BookFault::NoFiling { owner: owner as u8 }),
         None => Ok(()),
     }
 }
 
 // The same of the readings.
-pub(crate) fn all_read(standings: &[Standing]) -> Result<(), BookFault>
-    requires { length standings.now ≤ 16 }
-    ensures { (month : ℕ) (entries : List Noted) (areas : List ℕ) → InForce standings.now month entries → length areas ≡ length standings.now → fault_of (told (λ x. x) result) ≡ first_fault (each_from (reading_check month entries) 0 areas) }
+// As it is: its own match, as all_filed.
+pub(crate) fn all_read(standings: &Owners<Standing>) -> Result<(), BookFault>
+    ensures { (month : ℕ) (entries : List Noted) (areas : List ℕ) → InForce (items_of standings.now) month entries → length areas ≡ length (items_of standings.now) → fault_of (told (λ x. x) result) ≡ first_fault (each_from (reading_check month entries) 0 areas) }
 {
-    match standings.iter().position(|s| s.reading.is_none()) {
+    match standings.all().iter().position(|s| s.reading.is_none()) {
         Some(owner) => Err(BookFault::NoReading { owner: owner as u8 }),
         None => Ok(()),
     }
@@ -45,38 +45,36 @@ fn row_for(owner: &(u8, Standing)) -> OwnerRow
     ensures within { RowWithin result }
 {
     let (area, standing) = *owner;
-    let (Some(f), Some(r)) = (standing.filing, standing.reading) else {
+    let (Some(filing), Some(reading)) = (standing.filing, standing.reading) else {
         return OwnerRow::default();
     };
+    let (filed, metered) = (filing.figures, reading.figures);
     OwnerRow {
         area,
-        ehv: f.ehv,
-        nhv: f.nhv,
-        filed_load: f.load,
-        filed_peak: f.peak,
-        load: r.load,
-        peak: r.peak,
+        ehv: filed.ehv,
+        nhv: filed.nhv,
+        filed_load: filed.load,
+        filed_peak: filed.peak,
+        load: metered.load,
+        peak: metered.peak,
     }
 }
 
 // The rows of all owners.
-pub(crate) fn all_rows(areas: &Owners<u8>, standings: &[Standing]) -> Owners<OwnerRow>
-    requires few { length standings.now ≤ 16 }
-    requires many { length standings.now ≡ length (items_of areas.now) }
+pub(crate) fn all_rows(areas: &Owners<u8>, standings: &Owners<Standing>) -> Owners<OwnerRow>
+    requires many { length (items_of standings.now) ≡ length (items_of areas.now) }
     requires areas { (k : ℕ) → slice_index (items_of areas.now) k ≤ 2 }
-    ensures value { (month : ℕ) (entries : List Noted) → InForce standings.now month entries → items_of result ≡ rows_from month entries 0 (items_of areas.now) }
+    ensures value { (month : ℕ) (entries : List Noted) → InForce (items_of standings.now) month entries → items_of result ≡ rows_from month entries 0 (items_of areas.now) }
     ensures within { (k : ℕ) → RowWithin (slice_index_or (items_of result) k nobody) }
 {
-    let standings = Owners::new(standings).unwrap();
-    areas.zip(&standings).map(row_for)
+    areas.zip(standings).map(row_for)
 }
 
 // A table of the rows, unless their totals are over the limits.
-pub(crate) fn table_of(rows: &[OwnerRow]) -> Result<Table, BookFault>
-    requires some { 1 ≤ length rows.now }
-    requires few { length rows.now ≤ 16 }
-    requires within { (k : ℕ) → RowWithin (slice_index_or rows.now k nobody) }
-    ensures { MatchResult result (λ t. ((totals_check rows.now).fails ≡ false) × (rows_of t ≡ rows.now)) (λ e. ((totals_check rows.now).fails ≡ true) × (refusal e ≡ plain 11)) }
+pub(crate) fn table_of(rows: &Owners<OwnerRow>) -> Result<Table, BookFault>
+    requires some { 1 ≤ length (items_of rows.now) }
+    requires within { (k : ℕ) → RowWithin (slice_index_or (items_of rows.now) k nobody) }
+    ensures { MatchResult result (λ t. ((totals_check (items_of rows.now)).fails ≡ false) × (rows_of t ≡ items_of rows.now)) (λ e. ((totals_check (items_of rows.now)).fails ≡ true) × (refusal e ≡ plain 11)) }
 {
-    Table::new(rows).map_err(|_| BookFault::Totals)
+    Table::new(rows.all()).map_err(|_| BookFault::Totals)
 }

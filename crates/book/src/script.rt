@@ -14,6 +14,7 @@ use crate::book::Book;
 use crate::call::{Call, Reply};
 use crate::entry::Entry;
 use crate::fault::BookFault;
+use crate::limits::MOST_ENTRIES;
 use crate::opening::Opening;
 use crate::written::Written;
 use charges::Charge;
@@ -22,14 +23,13 @@ use rolls::Roll;
 impl Written {
     // The opening that was written down; there is none at more entries than a journal takes.
     fn opening(self) -> Option<Opening>
-        ensures { MatchOption result (8192 < self.count) (λ o. (o.month ≡ self.month) × (o.count ≡ self.count)) }
+        ensures { MatchOption result (8192 < self.count) (λ o. o.written ≡ self) }
     {
-        if self.count > 8192 {
+        if self.count > MOST_ENTRIES {
             return None;
         }
         Some(Opening {
-            month: self.month,
-            count: self.count,
+            written: self,
             spent: false,
         })
     }
@@ -49,17 +49,16 @@ impl<C: Charge> Book<C> {
     {
         let mut draft = [0; 16];
         let opening = self.open(journal, month, &mut draft)?;
-        let month = opening.month();
-        let count = opening.count();
+        let written = opening.written;
         opening.withdraw();
         Ok(Reply::Opened {
-            month,
-            count,
+            opening: written,
             draft,
         })
     }
 
     // Posts an opening that was written down.
+    // As it is: a rule of the project: journal and roll are the caller's, and each is lent by itself, here and in the calls below.
     fn post_written<R: Roll>(
         &mut self,
         journal: &Vec<Entry>,
@@ -86,24 +85,11 @@ impl<C: Charge> Book<C> {
         ensures law { FollowsOnRoll (event_of (request_of call.now) (told grant_of result)) (C.meaning self.old.charge) self.old journal.old (R.lines roll.old) (R.spare roll.old) (C.meaning self.new.charge) self.new journal.new (R.lines roll.new) (R.spare roll.new) }
     {
         match *call {
-            Call::File {
-                owner,
-                first,
-                last,
-                ehv,
-                nhv,
-                load,
-                peak,
-            } => self
-                .file(journal, owner, first, last, ehv, nhv, load, peak)
+            Call::File(figures) => self
+                .file(journal, figures)
                 .map(|number| Reply::Entered { number }),
-            Call::Read {
-                month,
-                owner,
-                load,
-                peak,
-            } => self
-                .read(journal, month, owner, load, peak)
+            Call::Read(figures) => self
+                .read(journal, figures)
                 .map(|number| Reply::Entered { number }),
             Call::Open { month } => self.open_written(journal, month),
             Call::Post(written) => self
@@ -131,6 +117,7 @@ impl<C: Charge> Book<C> {
         ensures law { (t : Terms) → Account (C.meaning self.old.charge) t [] self.old journal.old [] (R.spare roll.old) → Account (C.meaning self.new.charge) t (history_of calls.now answers.new) self.new journal.new (drop (length (R.lines roll.old)) (R.lines roll.new)) (R.spare roll.new) }
     {
         let count = calls.len().min(answers.len());
+        // As it is: tried as answers.iter_mut().zip(calls), behind which nothing is known of what is written.
         for (i, call) in calls[0..count].iter().enumerate() {
             answers[i] = self.perform(journal, roll, call);
         }
@@ -138,7 +125,7 @@ impl<C: Charge> Book<C> {
 }
 
 // Performs a script by a new book: the journal is emptied first, the roll's lines are added behind those it has.
-// As it is: each clause writes its run out, since a clause names no value for the clauses after it.
+// As it is: a rule of the project: each promise is a clause by its name, and a clause names no value for those after it.
 pub fn replay<C: Charge + Drop, R: Roll>(
     areas: &[u8],
     charge: C,

@@ -1,5 +1,6 @@
 // Which filing and which reading of each owner is in force for a month.
-ghost use Rattle.std.specs.Prelude.{List, [], ◌∷◌, ◌++◌, map};
+ghost use Rattle.std.specs.Prelude.{◌≡◌, List, [], ◌∷◌, ◌++◌, length, map};
+ghost use Rattle.charges.specs.Owners.{items_of};
 ghost use Rattle.book.specs.Entries.{Noted};
 ghost use Rattle.book.specs.Forces.{InForce};
 ghost use Rattle.book.specs.Meaning.{noted};
@@ -7,6 +8,7 @@ ghost use Rattle.book.specs.Meaning.{noted};
 use crate::current::touches;
 use crate::entry::Entry;
 use crate::standings::Standing;
+use charges::Owners;
 
 // Takes one more entry into account.
 fn note(standings: &mut [Standing; 16], month: u16, entry: &Entry)
@@ -16,18 +18,20 @@ fn note(standings: &mut [Standing; 16], month: u16, entry: &Entry)
         return;
     }
     match *entry {
-        Entry::Filing(f) => standings[usize::from(f.owner)].filing = Some(f),
-        Entry::Reading(r) => standings[usize::from(r.owner)].reading = Some(r),
+        Entry::Filing(f) => standings[usize::from(f.figures.owner)].filing = Some(f),
+        Entry::Reading(r) => standings[usize::from(r.figures.owner)].reading = Some(r),
     }
 }
 
 // What is in force of each owner for a month, in one pass over the entries.
-pub(crate) fn in_force(entries: &[Entry], month: u16) -> [Standing; 16]
-    ensures { InForce result month (map noted entries.now) }
+pub(crate) fn in_force(areas: &Owners<u8>, entries: &[Entry], month: u16) -> Owners<Standing>
+    ensures force { InForce (items_of result) month (map noted entries.now) }
+    ensures many { length (items_of result) ≡ length (items_of areas.now) }
 {
+    // As it is: a rule of the project: entries are of sixteen owner numbers, also of some that this book has not.
     let mut standings = [Standing::default(); 16];
     for entry in entries {
         note(&mut standings, month, entry);
     }
-    standings
+    Owners::new(&standings[..areas.count()]).unwrap()
 }

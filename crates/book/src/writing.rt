@@ -3,14 +3,16 @@ ghost use Rattle.std.specs.Prelude.{◌≡◌, if◌then◌else◌, Some, None, 
 ghost use Rattle.std.specs.Option.{option_map};
 ghost use Rattle.book.specs.Scripts.{written_as};
 
+use crate::limits::LAST_MONTH;
 use crate::written::Written;
+use std::fmt;
 
 impl Written {
     // The opening of this month at so many entries; none of a month above 359.
     pub fn new(month: u16, count: u16) -> Option<Written>
         ensures { option_map written_as result ≡ (if nat_lt 359 month then None else Some (month, count)) }
     {
-        if month > 359 {
+        if month > LAST_MONTH {
             return None;
         }
         Some(Written { month, count })
@@ -28,5 +30,17 @@ impl Written {
         ensures { result ≡ self.now.count }
     {
         self.count
+    }
+}
+
+impl fmt::Display for Written {
+    ghost use Rattle.std.specs.Prelude.{Some};
+    ghost use Rattle.book.specs.Scripts.{written_text};
+
+    ghost output = { λ w. Some (written_text w) };
+
+    fn fmt<W: fmt::Write>(&self, f: &mut fmt::Formatter<W>) -> fmt::Result {
+        let Written { month, count } = *self;
+        write!(f, "{month} {count}")
     }
 }

@@ -1,6 +1,6 @@
 // Entries and openings: what they answer, and each refusal.
 use crate::helpers::*;
-use book::{Book, BookFault};
+use book::{Book, BookFault, Filed, Metered};
 use charges::{ChargeFault, Volumetric};
 use std::test::Fail;
 
@@ -17,7 +17,7 @@ fn nets_of_the_worked_month(rt: HostRuntime) -> Result<(), Fail> {
     assert_eq!(rt; held.1, 6);
     assert!(rt; draft == [278, -1793, 1515, 7]);
     // The second owner's requirement is settled late; the first filing stays in the journal.
-    assert_eq!(rt; book.file(&mut journal, 1, 14, 14, 1200, 0, 100, 6)?, 6);
+    assert_eq!(rt; book.file(&mut journal, filed_late(1200))?, 6);
     let mut draft = [7; 3];
     assert_eq!(rt; refusal(book.open(&journal, 14, &mut draft)), None);
     assert!(rt; draft == [-506, -322, 828]);
@@ -54,56 +54,81 @@ fn openings_refused(rt: HostRuntime) -> Result<(), Fail> {
 fn entries_refused(rt: HostRuntime) -> Result<(), Fail> {
     let book = three_owners()?;
     let mut journal = Vec::with_capacity(rt.alloc(), 4)?;
-    assert_eq!(rt;
-        book.file(&mut journal, 3, 0, 0, 0, 0, 0, 0),
-        Err(BookFault::UnknownOwner)
-    );
-    assert_eq!(rt;
-        book.file(&mut journal, 0, 5, 4, 0, 0, 0, 0),
-        Err(BookFault::Month)
-    );
-    assert_eq!(rt;
-        book.file(&mut journal, 0, 0, 360, 0, 0, 0, 0),
-        Err(BookFault::Month)
-    );
-    assert_eq!(rt;
-        book.file(&mut journal, 0, 0, 0, 0, 0, 180_000_001, 0),
-        Err(BookFault::Figure)
-    );
-    assert_eq!(rt;
-        book.file(&mut journal, 0, 0, 0, 0, -2_000_000_001, 0, 0),
-        Err(BookFault::Figure)
-    );
-    assert_eq!(rt;
-        book.read(&mut journal, 360, 0, 0, 0),
-        Err(BookFault::Month)
-    );
-    assert_eq!(rt;
-        book.read(&mut journal, 0, 3, 0, 0),
-        Err(BookFault::UnknownOwner)
-    );
-    assert_eq!(rt;
-        book.read(&mut journal, 0, 0, 0, 100_001),
-        Err(BookFault::Figure)
-    );
-    assert_eq!(rt; journal.len(), 0);
-    assert_eq!(rt;
-        book.file(
-            &mut journal,
-            0,
-            359,
-            359,
-            2_000_000_000,
-            -2_000_000_000,
-            180_000_000,
-            1_000_000,
+    let filed = Filed::default();
+    let filings = [
+        (Filed { owner: 3, ..filed }, BookFault::UnknownOwner),
+        (
+            Filed {
+                first: 5,
+                last: 4,
+                ..filed
+            },
+            BookFault::Month,
         ),
-        Ok(0)
-    );
-    assert_eq!(rt;
-        book.read(&mut journal, 359, 2, 100_000_000, 100_000),
-        Ok(1)
-    );
+        (Filed { last: 360, ..filed }, BookFault::Month),
+        (
+            Filed {
+                load: 180_000_001,
+                ..filed
+            },
+            BookFault::Figure,
+        ),
+        (
+            Filed {
+                nhv: -2_000_000_001,
+                ..filed
+            },
+            BookFault::Figure,
+        ),
+    ];
+    for (figures, fault) in filings {
+        assert_eq!(rt; book.file(&mut journal, figures), Err(fault));
+    }
+    let metered = Metered::default();
+    let readings = [
+        (
+            Metered {
+                month: 360,
+                ..metered
+            },
+            BookFault::Month,
+        ),
+        (
+            Metered {
+                owner: 3,
+                ..metered
+            },
+            BookFault::UnknownOwner,
+        ),
+        (
+            Metered {
+                peak: 100_001,
+                ..metered
+            },
+            BookFault::Figure,
+        ),
+    ];
+    for (figures, fault) in readings {
+        assert_eq!(rt; book.read(&mut journal, figures), Err(fault));
+    }
+    assert_eq!(rt; journal.len(), 0);
+    let largest = Filed {
+        owner: 0,
+        first: 359,
+        last: 359,
+        ehv: 2_000_000_000,
+        nhv: -2_000_000_000,
+        load: 180_000_000,
+        peak: 1_000_000,
+    };
+    assert_eq!(rt; book.file(&mut journal, largest), Ok(0));
+    let largest = Metered {
+        month: 359,
+        owner: 2,
+        load: 100_000_000,
+        peak: 100_000,
+    };
+    assert_eq!(rt; book.read(&mut journal, largest), Ok(1));
     Ok(())
 }
 
@@ -113,10 +138,10 @@ fn full_journal(rt: HostRuntime) -> Result<(), Fail> {
     let mut journal = Vec::with_capacity(rt.alloc(), 2)?;
     let room = journal.capacity();
     for _ in 0..room.min(8192) {
-        book.read(&mut journal, 0, 0, 0, 0)?;
+        book.read(&mut journal, Metered::default())?;
     }
     assert_eq!(rt;
-        book.read(&mut journal, 0, 0, 0, 0),
+        book.read(&mut journal, Metered::default()),
         Err(BookFault::JournalFull)
     );
     Ok(())
@@ -136,8 +161,23 @@ fn opened_with(rt: HostRuntime, owners: [(i64, u32, u32); 2]) -> Result<Option<B
     let book = Book::new(&[0, 0], Volumetric::new(10)?)?;
     let mut journal = Vec::with_capacity(rt.alloc(), 4)?;
     for (i, (ehv, filed_load, load)) in owners.iter().enumerate() {
-        book.file(&mut journal, i as u8, 0, 0, *ehv, 0, *filed_load, 0)?;
-        book.read(&mut journal, 0, i as u8, *load, 0)?;
+        book.file(
+            &mut journal,
+            Filed {
+                owner: i as u8,
+                ehv: *ehv,
+                load: *filed_load,
+                ..Filed::default()
+            },
+        )?;
+        book.read(
+            &mut journal,
+            Metered {
+                owner: i as u8,
+                load: *load,
+                ..Metered::default()
+            },
+        )?;
     }
     let mut draft = [0; 2];
     Ok(refusal(book.open(&journal, 0, &mut draft)))

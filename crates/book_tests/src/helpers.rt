@@ -1,5 +1,5 @@
 // A book of three owners, what they enter, and what openings and rolls come to.
-use book::{Book, BookFault, Entry, Opening};
+use book::{Book, BookFault, Entry, Filed, Metered, Opening};
 use charges::Volumetric;
 use rolls::{Line, Roll};
 use std::process::Abort;
@@ -10,20 +10,52 @@ pub fn three_owners() -> Result<Book<Volumetric>, Fail> {
     Ok(Book::new(&[0, 1, 1], Volumetric::new(8)?)?)
 }
 
+// What an owner files for the first twenty months.
+pub fn filed(owner: u8, ehv: i64, nhv: i64, load: u32, peak: u32) -> Filed {
+    Filed {
+        owner,
+        first: 0,
+        last: 19,
+        ehv,
+        nhv,
+        load,
+        peak,
+    }
+}
+
+// What an owner's meters read in month 14.
+pub fn metered(owner: u8, load: u32, peak: u32) -> Metered {
+    Metered {
+        month: 14,
+        owner,
+        load,
+        peak,
+    }
+}
+
 // What the three owners file for the first twenty months, and the readings of month 14.
 pub fn enter(book: &Book<Volumetric>, journal: &mut Vec<Entry>) -> Result<(), Fail> {
-    book.file(journal, 0, 0, 19, 1000, 200, 100, 10)?;
-    book.file(journal, 1, 0, 19, 1500, 0, 100, 6)?;
-    book.file(journal, 2, 0, 19, 500, 0, 50, 4)?;
-    book.read(journal, 14, 0, 8, 1)?;
-    book.read(journal, 14, 1, 9, 1)?;
-    book.read(journal, 14, 2, 5, 0)?;
+    book.file(journal, filed(0, 1000, 200, 100, 10))?;
+    book.file(journal, filed(1, 1500, 0, 100, 6))?;
+    book.file(journal, filed(2, 500, 0, 50, 4))?;
+    book.read(journal, metered(0, 8, 1))?;
+    book.read(journal, metered(1, 9, 1))?;
+    book.read(journal, metered(2, 5, 0))?;
     Ok(())
+}
+
+// What the second owner files for month 14 alone.
+pub fn filed_late(ehv: i64) -> Filed {
+    Filed {
+        first: 14,
+        last: 14,
+        ..filed(1, ehv, 0, 100, 6)
+    }
 }
 
 // The second owner's requirement for month 14.
 pub fn require(book: &Book<Volumetric>, journal: &mut Vec<Entry>, ehv: i64) -> Result<(), Fail> {
-    book.file(journal, 1, 14, 14, ehv, 0, 100, 6)?;
+    book.file(journal, filed_late(ehv))?;
     Ok(())
 }
 

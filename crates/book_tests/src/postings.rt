@@ -1,6 +1,6 @@
 // Postings, corrections and states.
 use crate::helpers::*;
-use book::{Book, BookFault, Entry, Opening, State};
+use book::{Book, BookFault, Entry, Filed, Metered, Opening, State};
 use charges::{Hybrid, Volumetric};
 use rolls::{ArchiveRoll, Roll, TableRoll};
 use std::process::Abort;
@@ -180,10 +180,22 @@ fn states(rt: HostRuntime) -> Result<(), Fail> {
     let mut slots = [blank()?; 3];
     settle(&mut book, &journal, &mut TableRoll::new(&mut slots), 14)?;
     // A reading and a filing of other months leave it current, one of an owner's own month does not.
-    book.read(&mut journal, 13, 0, 1, 1)?;
-    book.file(&mut journal, 0, 15, 19, 1, 1, 1, 1)?;
+    book.read(
+        &mut journal,
+        Metered {
+            month: 13,
+            ..metered(0, 1, 1)
+        },
+    )?;
+    book.file(
+        &mut journal,
+        Filed {
+            first: 15,
+            ..filed(0, 1, 1, 1, 1)
+        },
+    )?;
     assert_eq!(rt; book.state(&journal, 14), Ok(State::Current { mark: 6 }));
-    book.read(&mut journal, 14, 2, 5, 0)?;
+    book.read(&mut journal, metered(2, 5, 0))?;
     assert_eq!(rt; book.state(&journal, 14), Ok(State::Due { mark: 6 }));
     assert_eq!(rt; book.state(&journal, 359), Ok(State::Unsettled));
     assert_eq!(rt; book.state(&journal, 360), Err(BookFault::Month));

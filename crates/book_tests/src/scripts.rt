@@ -1,29 +1,19 @@
 // Scripts of calls: the worked month, its correction, and openings as they are written down.
 use crate::helpers::*;
-use book::{BookFault, Call, Reply, State, Written, replay};
+use book::{BookFault, Call, Filed, Reply, State, Written, replay};
 use charges::Volumetric;
 use rolls::{Roll, TableRoll};
 use std::test::Fail;
 
 fn file(owner: u8, ehv: i64, nhv: i64, load: u32, peak: u32) -> Call {
-    Call::File {
-        owner,
-        first: 0,
+    Call::File(Filed {
         last: 359,
-        ehv,
-        nhv,
-        load,
-        peak,
-    }
+        ..filed(owner, ehv, nhv, load, peak)
+    })
 }
 
 fn read(owner: u8, load: u32, peak: u32) -> Call {
-    Call::Read {
-        month: 14,
-        owner,
-        load,
-        peak,
-    }
+    Call::Read(metered(owner, load, peak))
 }
 
 fn written(month: u16, count: u16) -> Result<Written, Fail> {
@@ -64,8 +54,7 @@ fn worked_month(rt: HostRuntime) -> Result<(), Fail> {
     let mut draft = [0; 16];
     draft[..3].copy_from_slice(&[278, -1793, 1515]);
     let opened = Reply::Opened {
-        month: 14,
-        count: 6,
+        opening: written(14, 6)?,
         draft,
     };
     let due = Reply::Stands(State::Due { mark: 6 });

@@ -2,7 +2,9 @@
 use Rattle.std.specs.Prelude.{ℕ, List, [], ◌∷◌, ◌++◌, replicate, ℤ, pos, ◌-ℤ◌}
 use Rattle.charges.specs.Volumetric.{volumetric}
 use Rattle.charges.specs.declared.table.OwnerRow.{OwnerRow}
-use Rattle.book.specs.Entries.{Filed, Metered, Noted, filed, metered}
+use Rattle.book.specs.Entries.{Noted, filed, metered}
+use Rattle.book.specs.declared.figures.Filed.{Filed}
+use Rattle.book.specs.declared.figures.Metered.{Metered}
 use Rattle.book.specs.Histories.{Terms}
 
 abbrev pub minus : ℕ → ℤ

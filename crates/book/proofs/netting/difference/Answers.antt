@@ -1,14 +1,13 @@
 use Rattle.std.proofs.Common.{◌≤◌, ℤ, nat_abs, arith}
 use Rattle.std.proofs.lemmas.Int.{ints}
 use Rattle.division.specs.Shares.{int_sum}
-use Rattle.charges.specs.Amounts.{amounts_of}
+use Rattle.charges.specs.Amounts.{amounts_of, AllBelow}
 use Rattle.charges.specs.declared.owners.Owners.{Owners}
 use Rattle.charges.proofs.Sizes.{owners-long, below-sum}
-use Rattle.book.specs.Bounds.{AllWithin}
 use Rattle.book.proofs.netting.difference.Goals as goal
 
 -- sixteen amounts together
-sum-small : (a : Owners ℤ) → AllWithin 10000000000000 (amounts_of a) → nat_abs (int_sum (amounts_of a)) ≤ 160000000000000
+sum-small : (a : Owners ℤ) → AllBelow 10000000000000 (amounts_of a) → nat_abs (int_sum (amounts_of a)) ≤ 160000000000000
 sum-small a small = omega (arith, below-sum 10000000000000 (amounts_of a) small, owners-long a, a.few)
 
 pub overflow_sub-result : goal.overflow_sub-result

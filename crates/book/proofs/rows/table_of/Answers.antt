@@ -1,4 +1,6 @@
-use Rattle.std.proofs.Common.{◌≡◌, ℕ, ◌≤◌, true, false, List, length, get_or, MatchResult, Ok, Err, Result, sym, refl, ◌∙◌, rules}
+use Rattle.std.proofs.Common.{◌≡◌, ℕ, ◌≤◌, true, false, List, length, get_or, MatchResult, Ok, Err, Result, sym, refl, ◌∙◌, arith, rules}
+use Rattle.charges.proofs.Sizes.{owners-long}
+use Rattle.charges.specs.Owners.{items_of}
 use Rattle.charges.specs.Rows.{RowWithin, nobody}
 use Rattle.charges.specs.Tables.{TableAnswer, rows_of}
 use Rattle.charges.specs.declared.fault.TableFault.{TableFault}
@@ -18,4 +20,6 @@ module _ (rows : List OwnerRow) (some : 1 ≤ length rows) (few : length rows �
   told (Err f) r answer is = rw is (totals-fail (totals_check rows).fails f (sym (only-totals rows some few within) ∙ answer), refl)
 
 pub returns : goal.returns
-returns c = told c.args.rows.now c.requires.some c.requires.few c.requires.within c.new.result c.map_err.result c.new.ensures (search rules)
+returns c =
+    let rows = c.args.rows.now in
+    told (items_of rows) c.requires.some (omega (arith, owners-long rows, rows.few)) c.requires.within c.new.result c.map_err.result (rw c.all.ensures at c.new.ensures) (search rules)

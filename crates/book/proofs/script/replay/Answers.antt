@@ -1,31 +1,11 @@
-use Rattle.std.proofs.Common.{[], map, length, drop, vec_capacity, sym, refl, ap, subst, append-nil}
-use Rattle.std.proofs.lemmas.Result.{err_from_is_err_and}
+use Rattle.std.proofs.Common.{map, length, drop, vec_capacity, sym, ap, subst}
 use Rattle.book.specs.Histories.{Terms, entries_by, postings_by, owners}
 use Rattle.book.specs.Journals.{entries_of}
 use Rattle.book.specs.Laws.{Law}
 use Rattle.book.specs.Meaning.{noted}
 use Rattle.book.specs.Scripts.{history_of}
-use Rattle.book.proofs.Accounting.{behind}
 use Rattle.book.proofs.Replayed.{each-cancels, balanced-at}
 use Rattle.book.proofs.script.replay.Goals as goal
-
-pub returns-in_err-book : goal.returns-in_err-book
-returns-in_err-book g c =
-    let p = err_from_is_err_and c.from_residual.result c.from_residual.ensures.1 in
-    let all = g.R.Roll.lines c.args.roll.now in
-    rw (p.1, p.2) (record {
-      answer = sym c.in_err-book.ensures.book;
-      refused = (refl, refl, refl);
-      kept = behind all all [] (sym (append-nil all));
-      rest = (refl, refl);
-      journal_holds_the_entries = tt;
-      answers_are_the_checks = tt;
-      lines_add_up_to_the_net = tt;
-      each_posting_adds_one_line_an_owner = tt;
-      postings_cancel = tt;
-      parts_cover_the_requirements = tt;
-      burdens_stay_within_caps = tt;
-    })
 
 pub returns : goal.returns
 returns g c =

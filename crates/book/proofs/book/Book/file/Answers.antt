@@ -1,12 +1,11 @@
-use Rattle.std.proofs.Common.{[], ◌∷◌, length, vec_len, vec_capacity, Err, refl, ◌∙◌, w64, subst}
-use Rattle.std.proofs.lemmas.Int.{to_z-of_z}
+use Rattle.std.proofs.Common.{[], ◌∷◌, length, vec_len, vec_capacity, Err, refl, ◌∙◌, subst}
 use Rattle.std.proofs.lemmas.Result.{err_from_is_err_and}
 use Rattle.book.specs.Books.{areas_of}
 use Rattle.book.specs.Checks.{filing_limits, room_check}
 use Rattle.book.specs.Entries.{filed}
 use Rattle.book.specs.Faults.{refusal}
 use Rattle.book.specs.Journals.{Enters}
-use Rattle.book.specs.Meaning.{filed_as, filed_of}
+use Rattle.book.specs.Meaning.{filed_of}
 use Rattle.book.proofs.Accounting.{files-on}
 use Rattle.book.proofs.Granting.{within-limits, same, outside-limits}
 use Rattle.book.proofs.book.Book.file.Goals as goal
@@ -14,12 +13,10 @@ use Rattle.book.proofs.book.Book.file.Goals as goal
 pub returns-in_err-filing : goal.returns-in_err-filing
 returns-in_err-filing g c =
     let a = c.args in
-    let f = filed_as a.owner a.first a.last a.ehv a.nhv a.load a.peak in
-    let e = to_z-of_z w64 a.ehv c.ranges.ehv in
-    let n = to_z-of_z w64 a.nhv c.ranges.nhv in
+    let f = a.figures in
     let p = err_from_is_err_and c.from_residual.result c.from_residual.ensures.1 in
     let fault = c.in_err-filing.field-0.0 in
-    let denied = rw (e, n) at c.in_err-filing.ensures in
+    let denied = c.in_err-filing.ensures in
     let answer = outside-limits (vec_len a.journal.now) (filing_limits (length (areas_of a.self.now)) f) (room_check (vec_len a.journal.now) (vec_capacity a.journal.now) ∷ []) f (refusal fault) denied in
     rw (p.1, p.2) (record {
       answer = answer;
@@ -30,12 +27,10 @@ returns-in_err-filing g c =
 pub returns : goal.returns
 returns g c =
     let a = c.args in
-    let f = filed_as a.owner a.first a.last a.ehv a.nhv a.load a.peak in
-    let e = to_z-of_z w64 a.ehv c.ranges.ehv in
-    let n = to_z-of_z w64 a.nhv c.ranges.nhv in
+    let f = a.figures in
     let limits = filing_limits (length (areas_of a.self.now)) f in
     let room = room_check (vec_len a.journal.now) (vec_capacity a.journal.now) ∷ [] in
-    let passed = rw (e, n) at c.in_ok-filing.ensures in
+    let passed = c.in_ok-filing.ensures in
     let answer = c.enter.ensures.answer ∙ within-limits (vec_len a.journal.now) limits room f (filed_of c.in_ok-filing.filing) passed in
     let journal = subst (λ x. Enters (filed x) c.enter.result a.journal.now c.enter.new.journal) (same (vec_len a.journal.now) limits room f (filed_of c.in_ok-filing.filing) passed) c.enter.ensures.journal in
     record {

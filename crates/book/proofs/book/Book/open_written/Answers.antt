@@ -7,4 +7,4 @@ returns-in_err-opening g c =
     rw (p.1, p.2) c.in_err-opening.ensures.law
 
 pub returns : goal.returns
-returns g c = rw (c.count-count.ensures, c.month-month.ensures) c.in_ok-opening.ensures.law
+returns g c = c.in_ok-opening.ensures.law

@@ -1,5 +1,4 @@
-use Rattle.std.proofs.Common.{sym, refl, ap, w64, SFits, rules}
-use Rattle.std.proofs.lemmas.Int.{to_z-of_z}
+use Rattle.std.proofs.Common.{sym, refl, ap, rules}
 use Rattle.book.specs.Scripts.{grant_of, request_of}
 use Rattle.book.specs.declared.call.Reply.TheVariants.{Entered, Posted, Stands}
 use Rattle.book.proofs.Accounting.{renamed, told-mapped, withdraws-on, behind, behind_more, same_lines}
@@ -8,15 +7,10 @@ use Rattle.book.proofs.book.Book.perform.Goals as goal
 pub returns-in-File : goal.returns-in-File
 returns-in-File g c =
     let a = c.args in
-    let ehv-fits : SFits w64 c.in-File.ehv = search rules in
-    let nhv-fits : SFits w64 c.in-File.nhv = search rules in
-    let e = to_z-of_z w64 c.in-File.ehv ehv-fits in
-    let n = to_z-of_z w64 c.in-File.nhv nhv-fits in
-    let on = rw (e, n) at c.file.ensures.law in
     record {
       kept = behind (g.R.Roll.lines a.roll.now);
       law = λ t h earlier before after is is' account.
-          renamed (g.C.Charge.meaning a.self.now.charge) t h a.self.now _ (g.R.Roll.spare a.roll.now) _ _ _ _ before after (ap request_of (sym c.in-File.is)) (told-mapped grant_of Entered c.file.result c.map.result (search rules)) (same_lines (g.R.Roll.lines a.roll.now) earlier before after is is') (on t h before (g.R.Roll.spare a.roll.now) account);
+          renamed (g.C.Charge.meaning a.self.now.charge) t h a.self.now _ (g.R.Roll.spare a.roll.now) _ _ _ _ before after (ap request_of (sym c.in-File.is)) (told-mapped grant_of Entered c.file.result c.map.result (search rules)) (same_lines (g.R.Roll.lines a.roll.now) earlier before after is is') (c.file.ensures.law t h before (g.R.Roll.spare a.roll.now) account);
     }
 
 pub returns-in-Read : goal.returns-in-Read

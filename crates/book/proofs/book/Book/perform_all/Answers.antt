@@ -1,19 +1,9 @@
-use Rattle.std.proofs.Common.{◌≡◌, ◌-◌, ◌<◌, min, [], ◌++◌, length, take, drop, sym, refl, ap, ◌∙◌, subst, append-nil, arith}
-use Rattle.std.proofs.lemmas.List.{drop_all, get_or-take, length-set, length-take-le}
+use Rattle.std.proofs.Common.{◌≡◌, ◌-◌, ◌<◌, min, length, take, drop, sym, ap, ◌∙◌, subst, arith}
+use Rattle.std.proofs.lemmas.List.{get_or-take, length-set, length-take-le}
 use Rattle.book.specs.Accounts.{Account}
 use Rattle.book.specs.Scripts.{history_of}
 use Rattle.book.proofs.Replayed.{history-more, history-all, rest-kept, drop-next}
 use Rattle.book.proofs.book.Book.perform_all.Goals as goal
-
-pub loop-i-init : goal.loop-i-init
-loop-i-init g c =
-    let all = g.R.Roll.lines c.args.roll.now in
-    let none : drop (length all) all ≡ [] = drop_all (length all) all (omega arith) in (
-      sym (append-nil all) ∙ ap (λ xs. all ++ xs) (sym none),
-      refl,
-      refl,
-      λ t account. subst (λ rows. Account (g.C.Charge.meaning c.args.self.now.charge) t [] c.args.self.now c.args.journal.now rows (g.R.Roll.spare c.args.roll.now)) (sym none) account,
-    )
 
 pub loop-i-preserved : goal.loop-i-preserved
 loop-i-preserved g c =

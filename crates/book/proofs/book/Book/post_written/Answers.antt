@@ -32,5 +32,5 @@ returns-in_default g c =
 pub returns : goal.returns
 returns g c =
     let o = c.in-Some.ensures in
-    let p = rw (o.0, o.1) at c.post.ensures in
+    let p = rw o at c.post.ensures in
     record { lines = p.lines; law = p.law }

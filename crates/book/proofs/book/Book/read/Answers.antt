@@ -5,7 +5,7 @@ use Rattle.book.specs.Checks.{reading_limits, room_check}
 use Rattle.book.specs.Entries.{metered}
 use Rattle.book.specs.Faults.{refusal}
 use Rattle.book.specs.Journals.{Enters}
-use Rattle.book.specs.Meaning.{metered_as, metered_of}
+use Rattle.book.specs.Meaning.{metered_of}
 use Rattle.book.proofs.Accounting.{reads_on}
 use Rattle.book.proofs.Granting.{within-limits, same, outside-limits}
 use Rattle.book.proofs.book.Book.read.Goals as goal
@@ -13,7 +13,7 @@ use Rattle.book.proofs.book.Book.read.Goals as goal
 pub returns-in_err-reading : goal.returns-in_err-reading
 returns-in_err-reading g c =
     let a = c.args in
-    let f = metered_as a.month a.owner a.load a.peak in
+    let f = a.figures in
     let p = err_from_is_err_and c.from_residual.result c.from_residual.ensures.1 in
     let fault = c.in_err-reading.field-0.0 in
     let denied = c.in_err-reading.ensures in
@@ -27,7 +27,7 @@ returns-in_err-reading g c =
 pub returns : goal.returns
 returns g c =
     let a = c.args in
-    let f = metered_as a.month a.owner a.load a.peak in
+    let f = a.figures in
     let limits = reading_limits (length (areas_of a.self.now)) f in
     let room = room_check (vec_len a.journal.now) (vec_capacity a.journal.now) ∷ [] in
     let passed = c.in_ok-reading.ensures in
