@@ -2,17 +2,40 @@
 #![tactic(auto)]
 
 use anyhow::{Context, anyhow};
-use book::{Book, BookFault, Entry};
+use book::{Book, BookFault, Entry, Filed, Metered};
 use charges::{Charge, Volumetric};
 use rolls::{ArchiveRoll, Roll};
 
+// What an owner files for all months.
+fn filed(owner: u8, ehv: i64, nhv: i64, load: u32, peak: u32) -> Filed {
+    Filed {
+        owner,
+        first: 0,
+        last: 359,
+        ehv,
+        nhv,
+        load,
+        peak,
+    }
+}
+
+// What an owner's meters read in month 14.
+fn metered(owner: u8, load: u32, peak: u32) -> Metered {
+    Metered {
+        month: 14,
+        owner,
+        load,
+        peak,
+    }
+}
+
 fn enter<C: Charge>(book: &Book<C>, journal: &mut Vec<Entry>) -> Result<(), BookFault> {
-    book.file(journal, 0, 0, 359, 1000, 200, 100, 10)?;
-    book.file(journal, 1, 0, 359, 1500, 0, 100, 6)?;
-    book.file(journal, 2, 0, 359, 500, 0, 50, 4)?;
-    book.read(journal, 14, 0, 8, 1)?;
-    book.read(journal, 14, 1, 9, 1)?;
-    book.read(journal, 14, 2, 5, 0)?;
+    book.file(journal, filed(0, 1000, 200, 100, 10))?;
+    book.file(journal, filed(1, 1500, 0, 100, 6))?;
+    book.file(journal, filed(2, 500, 0, 50, 4))?;
+    book.read(journal, metered(0, 8, 1))?;
+    book.read(journal, metered(1, 9, 1))?;
+    book.read(journal, metered(2, 5, 0))?;
     Ok(())
 }
 
@@ -31,14 +54,9 @@ fn bill<C: Charge, R: Roll>(
 
 fn print_lines<R: Roll>(rt: &impl Print, roll: &R) -> anyhow::Result<()> {
     println!(rt; "month owner mark cents")?;
-    // As it is: a roll hands its lines out by place, and has no slice of them to go through.
-    for place in 0..3 {
-        let line = roll.line(place).context("a line is missing")?;
-        let month = line.month();
-        let owner = line.owner();
-        let mark = line.mark();
-        let cents = line.cents();
-        println!(rt; "{month} {owner} {mark} {cents}")?;
+    for line in (0..3).map(|place| roll.line(place)) {
+        let line = line.context("a line is missing")?;
+        println!(rt; "{line}")?;
     }
     Ok(())
 }

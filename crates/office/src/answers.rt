@@ -1,66 +1,46 @@
 // The answers to a script's calls as text, one line for each.
 use crate::refusal::Refusal;
-use book::{BookFault, Call, Reply, State, Written};
-use rolls::{ArchiveRoll, Roll};
+use book::{BookFault, Call, Reply, State};
+use rolls::{ArchiveRoll, RECORD_LEN, Roll};
 use std::alloc::AllocError;
+use std::fmt;
 use std::fmt::Write;
 
-// An opening by its month and count, and the nets that stand in the draft list's first places, one for each owner.
-fn lay_opened(
-    text: &mut String,
+// A call of a book of so many owners, and what it answered; a reply comes to a call of its own kind alone.
+#[derive(Clone, Copy)]
+struct Answer<'a> {
     owners: usize,
-    month: u16,
-    count: u16,
-    draft: &[i64; 16],
-) -> Result<(), AllocError> {
-    write!(text, "opened {month} {count}")?;
-    for net in draft.iter().take(owners) {
-        write!(text, " {net}")?;
-    }
-    writeln!(text)
+    call: &'a Call,
+    answer: &'a Result<Reply, BookFault>,
 }
 
-// What became of an opening that was written down.
-fn lay_ended(text: &mut String, ended: &str, opening: &Written) -> Result<(), AllocError> {
-    let month = opening.month();
-    let count = opening.count();
-    writeln!(text, "{ended} {month} {count}")
-}
-
-fn lay_state(text: &mut String, month: u16, state: &State) -> Result<(), AllocError> {
-    match state {
-        State::Unsettled => writeln!(text, "unsettled {month}"),
-        State::Due { mark } => writeln!(text, "due {month} {mark}"),
-        State::Current { mark } => writeln!(text, "current {month} {mark}"),
-    }
-}
-
-// The reply to one call of a book of so many owners; a reply comes to a call of its own kind alone.
-fn lay_reply(
-    text: &mut String,
-    owners: usize,
-    call: &Call,
-    reply: &Reply,
-) -> Result<(), AllocError> {
-    match (call, reply) {
-        (Call::File { .. }, Reply::Entered { number }) => writeln!(text, "filed {number}"),
-        (_, Reply::Entered { number }) => writeln!(text, "read {number}"),
-        (
-            _,
-            Reply::Opened {
-                month,
-                count,
-                draft,
+impl fmt::Display for Answer<'_> {
+    fn fmt<W: fmt::Write>(&self, f: &mut fmt::Formatter<W>) -> fmt::Result {
+        match (self.call, self.answer) {
+            (_, Err(fault)) => write!(f, "{}", Refusal::from(*fault)),
+            (Call::File(_), Ok(Reply::Entered { number })) => write!(f, "filed {number}"),
+            (_, Ok(Reply::Entered { number })) => write!(f, "read {number}"),
+            // The nets stand in the draft list's first places, one for each owner.
+            (_, Ok(Reply::Opened { opening, draft })) => {
+                write!(f, "opened {opening}")?;
+                for net in draft.iter().take(self.owners) {
+                    write!(f, " {net}")?;
+                }
+                Ok(())
+            }
+            (Call::Post(opening) | Call::Withdraw(opening), Ok(Reply::Posted)) => {
+                write!(f, "posted {opening}")
+            }
+            (Call::Post(opening) | Call::Withdraw(opening), Ok(Reply::Withdrawn)) => {
+                write!(f, "withdrawn {opening}")
+            }
+            (Call::State { month }, Ok(Reply::Stands(state))) => match state {
+                State::Unsettled => write!(f, "unsettled {month}"),
+                State::Due { mark } => write!(f, "due {month} {mark}"),
+                State::Current { mark } => write!(f, "current {month} {mark}"),
             },
-        ) => lay_opened(text, owners, *month, *count, draft),
-        (Call::Post(opening) | Call::Withdraw(opening), Reply::Posted) => {
-            lay_ended(text, "posted", opening)
+            _ => Ok(()),
         }
-        (Call::Post(opening) | Call::Withdraw(opening), Reply::Withdrawn) => {
-            lay_ended(text, "withdrawn", opening)
-        }
-        (Call::State { month }, Reply::Stands(state)) => lay_state(text, *month, state),
-        _ => Ok(()),
     }
 }
 
@@ -72,27 +52,22 @@ pub(crate) fn lay_answers(
     answers: &[Result<Reply, BookFault>],
 ) -> Result<(), AllocError> {
     for (call, answer) in calls.iter().zip(answers) {
-        match answer {
-            Ok(reply) => lay_reply(text, owners, call, reply)?,
-            Err(fault) => {
-                let refusal = Refusal::from(*fault);
-                writeln!(text, "{refusal}")?;
-            }
-        }
+        let answer = Answer {
+            owners,
+            call,
+            answer,
+        };
+        writeln!(text, "{answer}")?;
     }
     Ok(())
 }
 
 // The roll's lines, behind their count.
 pub(crate) fn lay_lines(text: &mut String, roll: &ArchiveRoll<'_>) -> Result<(), AllocError> {
-    let count = roll.written().len() / 27;
+    let count = roll.written().len() / RECORD_LEN;
     writeln!(text, "lines {count}")?;
     for line in (0..count).filter_map(|place| roll.line(place)) {
-        let month = line.month();
-        let owner = line.owner();
-        let mark = line.mark();
-        let cents = line.cents();
-        writeln!(text, "{month} {owner} {mark} {cents}")?;
+        writeln!(text, "{line}")?;
     }
     Ok(())
 }

@@ -8,10 +8,11 @@ pub(crate) enum Halt {
     // The book refused its owners.
     SetUp(BookFault),
     // A charge refused its setting.
-    Setting,
+    Setting(SettingFault),
     Memory(AllocError),
 }
 
+// As it is: the derives of another crate are no plainer than three short impls that no one outside sees.
 impl From<BookFault> for Halt {
     fn from(fault: BookFault) -> Halt {
         Halt::SetUp(fault)
@@ -19,8 +20,8 @@ impl From<BookFault> for Halt {
 }
 
 impl From<SettingFault> for Halt {
-    fn from(_fault: SettingFault) -> Halt {
-        Halt::Setting
+    fn from(fault: SettingFault) -> Halt {
+        Halt::Setting(fault)
     }
 }
 

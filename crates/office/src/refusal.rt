@@ -2,12 +2,15 @@
 ghost use Rattle.std.specs.Prelude.{◌≡◌};
 ghost use Rattle.book.specs.Faults.{refusal};
 ghost use Rattle.book.specs.Workings.{plain, placed};
+ghost use Rattle.charges.specs.Settings.{setting_number};
 ghost use Rattle.office.specs.Refusals.{refusal_in};
 
 use book::BookFault;
+use charges::SettingFault;
 use std::fmt;
 
 // The number, the place if one is named, and the level of a charge's own fault.
+// As it is: a rule of the project: a refusal goes by its number on every page and in every script.
 #[derive(Clone, Copy)]
 pub struct Refusal {
     pub number: u8,
@@ -70,6 +73,17 @@ pub fn refusal_of(fault: BookFault) -> Refusal
     ensures { refusal_in result ≡ refusal fault }
 {
     Refusal::from(fault)
+}
+
+// What the refusal of a charge's setting tells.
+impl From<SettingFault> for Refusal {
+    ghost from_gives = { λ fault r. refusal_in r ≡ plain (setting_number fault) };
+
+    fn from(fault: SettingFault) -> Refusal {
+        match fault {
+            SettingFault::Outside => plain(2),
+        }
+    }
 }
 
 impl fmt::Display for Refusal {

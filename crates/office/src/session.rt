@@ -4,7 +4,7 @@ use crate::halt::Halt;
 use crate::refusal::Refusal;
 use book::{Book, BookFault, replay};
 use charges::{Charge, Hybrid, SettingFault, Transition, Volumetric};
-use rolls::ArchiveRoll;
+use rolls::{ArchiveRoll, RECORD_LEN};
 use script::{Layer, Plain, Script};
 use std::alloc::{AllocError, Global};
 
@@ -20,7 +20,7 @@ pub struct Session {
 fn run<C: Charge + Drop>(heap: Global, script: &Script, charge: C) -> Result<Session, Halt> {
     let mut journal = Vec::new(heap);
     journal.reserve_exact(usize::from(script.journal))?;
-    let mut bytes = vec![in heap; 0u8; usize::from(script.roll) * 27]?;
+    let mut bytes = vec![in heap; 0u8; usize::from(script.roll) * RECORD_LEN]?;
     let mut answers = vec![in heap; Err(BookFault::Owners); script.calls.len()]?;
     let mut roll = ArchiveRoll::new(&mut bytes);
     replay(
@@ -67,16 +67,18 @@ fn run_charged(heap: Global, script: &Script) -> Result<Session, Halt> {
     }
 }
 
-// The number of a refused set-up: the owners are looked at before any setting.
-fn set_up_number(script: &Script, halt: Halt) -> Result<u8, AllocError> {
+// What a refused set-up tells: the owners are looked at before any setting.
+fn set_up_refusal(script: &Script, halt: Halt) -> Result<Refusal, AllocError> {
     match halt {
-        Halt::SetUp(fault) => Ok(Refusal::from(fault).number),
-        Halt::Setting => Ok(
-            Volumetric::new(0)
-                .ok()
-                .and_then(|plain| Book::new(&script.areas, plain).err())
-                .map_or(2, |fault| Refusal::from(fault).number),
-        ),
+        Halt::SetUp(fault) => Ok(fault.into()),
+        Halt::Setting(fault) => {
+            if let Ok(plain) = Volumetric::new(0)
+                && let Err(owners) = Book::new(&script.areas, plain)
+            {
+                return Ok(owners.into());
+            }
+            Ok(fault.into())
+        }
         Halt::Memory(error) => Err(error),
     }
 }
@@ -84,7 +86,7 @@ fn set_up_number(script: &Script, halt: Halt) -> Result<u8, AllocError> {
 // Holds the session that a script describes.
 pub fn hold(heap: Global, script: &Script) -> Result<Session, AllocError> {
     run_charged(heap, script).or_else(|halt| {
-        let number = set_up_number(script, halt)?;
+        let Refusal { number, .. } = set_up_refusal(script, halt)?;
         Ok(Session {
             text: format!(in heap; "setup refused {number}\n")?,
             archive: None,

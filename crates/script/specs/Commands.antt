@@ -49,7 +49,7 @@ file_call ns =
     and_then (money_at ns 3) (λ ehv.
     and_then (money_at ns 4) (λ nhv.
     and_then (figure_at ns 5) (λ load.
-    and_then (figure_at ns 6) (λ peak. Ok (File owner first last ehv nhv load peak)))))))))
+    and_then (figure_at ns 6) (λ peak. Ok (File (record { owner = owner; first = first; last = last; ehv = ehv; nhv = nhv; load = load; peak = peak }))))))))))
 
 -- read MONTH OWNER LOAD PEAK
 abbrev pub read_call : List Number → Result Call Wrong
@@ -58,7 +58,7 @@ read_call ns =
     and_then (short_at ns 0) (λ month.
     and_then (byte_at ns 1) (λ owner.
     and_then (figure_at ns 2) (λ load.
-    and_then (figure_at ns 3) (λ peak. Ok (Read month owner load peak))))))
+    and_then (figure_at ns 3) (λ peak. Ok (Read (record { month = month; owner = owner; load = load; peak = peak })))))))
 
 -- open MONTH
 abbrev pub open_call : List Number → Result Call Wrong
@@ -94,8 +94,8 @@ pub data Said : Type 0 where
   asks : Call → Said
 
 abbrev pub said_by : Call → Said
-said_by (File owner first last ehv nhv load peak) = asks (File owner first last ehv nhv load peak)
-said_by (Read month owner load peak) = asks (Read month owner load peak)
+said_by (File figures) = asks (File figures)
+said_by (Read figures) = asks (Read figures)
 said_by (Open month) = asks (Open month)
 said_by (Post w) = posts (written_as w)
 said_by (Withdraw w) = withdraws (written_as w)

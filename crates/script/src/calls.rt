@@ -9,7 +9,7 @@ use crate::fault::{Stop, Wrong};
 use crate::number::Number;
 use crate::script::{Layer, Plain};
 use crate::width::Width;
-use book::{Call, Written};
+use book::{Call, Filed, Metered, Written};
 use std::alloc::Global;
 
 // The numbers, of which so many are wanted, no fewer and no more.
@@ -42,7 +42,7 @@ pub(crate) fn file_call(numbers: &[Number]) -> Result<Call, Wrong>
     ensures { result ≡ file_call numbers.now }
 {
     let [owner, first, last, ehv, nhv, load, peak] = exactly::<7>(numbers)?;
-    Ok(Call::File {
+    Ok(Call::File(Filed {
         owner: owner.fit()?,
         first: first.fit()?,
         last: last.fit()?,
@@ -50,22 +50,23 @@ pub(crate) fn file_call(numbers: &[Number]) -> Result<Call, Wrong>
         nhv: nhv.fit()?,
         load: load.fit()?,
         peak: peak.fit()?,
-    })
+    }))
 }
 
 pub(crate) fn read_call(numbers: &[Number]) -> Result<Call, Wrong>
     ensures { result ≡ read_call numbers.now }
 {
     let [month, owner, load, peak] = exactly::<4>(numbers)?;
-    Ok(Call::Read {
+    Ok(Call::Read(Metered {
         month: month.fit()?,
         owner: owner.fit()?,
         load: load.fit()?,
         peak: peak.fit()?,
-    })
+    }))
 }
 
 // A layer's caps by owner, 0 where none is written.
+// As it is: a rule of the project: the charge takes sixteen caps, whatever the owners' count.
 fn caps(numbers: &[Number]) -> Result<[u32; 16], Wrong>
     ensures { result ≡ caps_of numbers.now }
 {
@@ -73,6 +74,7 @@ fn caps(numbers: &[Number]) -> Result<[u32; 16], Wrong>
         return Err(Wrong::TooMany);
     }
     let mut caps = [0; 16];
+    // As it is: tried as a zip of iter_mut, after which nothing is known of the caps that were written.
     for (i, number) in numbers.iter().enumerate() {
         caps[i] = number.fit()?;
     }
@@ -106,12 +108,9 @@ pub(crate) fn areas(heap: Global, numbers: &[Number]) -> Result<Vec<u8>, Stop>
 pub(crate) fn charge_named(kind: &[u8], setting: u8) -> Result<Plain, Wrong>
     ensures { result ≡ charge_named kind.now setting }
 {
-    // As it is: tried as a match on byte strings, as in command_named.
-    if kind == b"volumetric".as_slice() {
-        Ok(Plain::Volumetric(setting))
-    } else if kind == b"hybrid".as_slice() {
-        Ok(Plain::Hybrid(setting))
-    } else {
-        Err(Wrong::UnknownCharge)
+    match kind {
+        b"volumetric" => Ok(Plain::Volumetric(setting)),
+        b"hybrid" => Ok(Plain::Hybrid(setting)),
+        _ => Err(Wrong::UnknownCharge),
     }
 }

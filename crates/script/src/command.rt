@@ -34,30 +34,18 @@ pub(crate) enum Command {
 pub(crate) fn command_named(word: &[u8]) -> Option<Command>
     ensures { result ≡ command_named word.now }
 {
-    // As it is: tried as a match on byte strings, which parts at each byte: the search leaves sixty-three cases open.
-    if word == b"owners".as_slice() {
-        Some(Command::SetUp(Part::Owners))
-    } else if word == b"charge".as_slice() {
-        Some(Command::SetUp(Part::Charge))
-    } else if word == b"layer".as_slice() {
-        Some(Command::SetUp(Part::Layer))
-    } else if word == b"journal".as_slice() {
-        Some(Command::SetUp(Part::Journal))
-    } else if word == b"roll".as_slice() {
-        Some(Command::SetUp(Part::Roll))
-    } else if word == b"file".as_slice() {
-        Some(Command::Call(Asked::File))
-    } else if word == b"read".as_slice() {
-        Some(Command::Call(Asked::Read))
-    } else if word == b"open".as_slice() {
-        Some(Command::Call(Asked::Open))
-    } else if word == b"post".as_slice() {
-        Some(Command::Call(Asked::Post))
-    } else if word == b"withdraw".as_slice() {
-        Some(Command::Call(Asked::Withdraw))
-    } else if word == b"state".as_slice() {
-        Some(Command::Call(Asked::State))
-    } else {
-        None
+    match word {
+        b"owners" => Some(Command::SetUp(Part::Owners)),
+        b"charge" => Some(Command::SetUp(Part::Charge)),
+        b"layer" => Some(Command::SetUp(Part::Layer)),
+        b"journal" => Some(Command::SetUp(Part::Journal)),
+        b"roll" => Some(Command::SetUp(Part::Roll)),
+        b"file" => Some(Command::Call(Asked::File)),
+        b"read" => Some(Command::Call(Asked::Read)),
+        b"open" => Some(Command::Call(Asked::Open)),
+        b"post" => Some(Command::Call(Asked::Post)),
+        b"withdraw" => Some(Command::Call(Asked::Withdraw)),
+        b"state" => Some(Command::Call(Asked::State)),
+        _ => None,
     }
 }

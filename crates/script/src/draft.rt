@@ -1,8 +1,9 @@
 // A script as far as it is read.
-ghost use Rattle.std.specs.Prelude.{◌≡◌};
+ghost use Rattle.std.specs.Prelude.{◌≡◌, cond, is_some, Ok, Err};
 ghost use Rattle.script.specs.Answers.{Changes};
 ghost use Rattle.script.specs.Commands.{told};
 ghost use Rattle.script.specs.Scripts.{blank, finished, meant_by};
+ghost use Rattle.script.specs.declared.fault.Wrong.TheVariants.{Repeated};
 ghost use Rattle.script.specs.Drafts.{draft_of, with_owners, with_charge, with_layer, with_room, still_open, complete};
 
 use crate::calls::{areas, charge_named, layer, only};
@@ -65,9 +66,7 @@ impl Draft {
     pub(crate) fn set_owners(&mut self, numbers: &[Number]) -> Result<(), Stop>
         ensures { Changes result (draft_of self.new) (with_owners (draft_of self.old) numbers.now) }
     {
-        if self.owners.is_some() {
-            return Err(Stop::Wrong(Wrong::Repeated));
-        }
+        not_given(&self.owners)?;
         self.owners = Some(areas(self.heap, numbers)?);
         Ok(())
     }
@@ -75,9 +74,7 @@ impl Draft {
     pub(crate) fn set_charge(&mut self, kind: &[u8], numbers: &[Number]) -> Result<(), Stop>
         ensures { Changes result (draft_of self.new) (with_charge (draft_of self.old) kind.now numbers.now) }
     {
-        if self.charge.is_some() {
-            return Err(Stop::Wrong(Wrong::Repeated));
-        }
+        not_given(&self.charge)?;
         self.charge = Some(charge_named(kind, only(numbers)?)?);
         Ok(())
     }
@@ -119,13 +116,21 @@ impl Draft {
     }
 }
 
+// Each part of the set-up but a layer is given once.
+fn not_given<T>(part: &Option<T>) -> Result<(), Wrong>
+    ensures { result ≡ cond (is_some part.now) (Err Repeated) (Ok tt) }
+{
+    if part.is_some() {
+        return Err(Wrong::Repeated);
+    }
+    Ok(())
+}
+
 // The room of a journal or a roll, which is given once.
 pub(crate) fn set_room(slot: &mut Option<u16>, numbers: &[Number]) -> Result<(), Wrong>
     ensures { told (λ _. slot.new) result ≡ with_room slot.old numbers.now }
 {
-    if slot.is_some() {
-        return Err(Wrong::Repeated);
-    }
+    not_given(slot)?;
     *slot = Some(only(numbers)?);
     Ok(())
 }

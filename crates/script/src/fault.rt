@@ -59,6 +59,7 @@ impl Stop {
     }
 }
 
+// As it is: a derived From is no plainer: it says nothing of the fault that `?` passes up, which clauses name.
 impl From<Wrong> for Stop {
     ghost from_gives = { λ wrong r. r ≡ stopped wrong };
 

@@ -51,12 +51,13 @@ impl Draft {
     {
         self.set_up_is_open()?;
         match part {
-            Part::Owners => self.set_owners(&read_numbers(self.heap, words)?),
-            Part::Charge => self.take_charge(words),
-            Part::Layer => self.add_layer(&read_numbers(self.heap, words)?),
-            Part::Journal => Ok(set_room(&mut self.journal, &read_numbers(self.heap, words)?)?),
-            Part::Roll => Ok(set_room(&mut self.roll, &read_numbers(self.heap, words)?)?),
+            Part::Owners => self.set_owners(&read_numbers(self.heap, words)?)?,
+            Part::Charge => self.take_charge(words)?,
+            Part::Layer => self.add_layer(&read_numbers(self.heap, words)?)?,
+            Part::Journal => set_room(&mut self.journal, &read_numbers(self.heap, words)?)?,
+            Part::Roll => set_room(&mut self.roll, &read_numbers(self.heap, words)?)?,
         }
+        Ok(())
     }
 
     // Takes a call in, with the words behind it.

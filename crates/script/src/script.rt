@@ -12,6 +12,7 @@ pub enum Plain {
 #[derive(Clone, Copy)]
 pub struct Layer {
     pub tenths: u8,
+    // As it is: a rule of the project: the charge takes sixteen caps, whatever the owners' count.
     pub caps: [u32; 16],
 }
 

@@ -14,10 +14,8 @@ fn split_once(text: &[u8], byte: u8) -> (&[u8], &[u8])
     ensures front { result.0.now ≡ before_first (λ b. b == byte) text.now }
     ensures back { result.1.now ≡ after_first (λ b. b == byte) text.now }
 {
-    match text.iter().position(|b| *b == byte) {
-        Some(at) => (&text[..at], &text[at + 1..]),
-        None => (text, &[]),
-    }
+    let at = text.iter().position(|b| *b == byte).unwrap_or(text.len());
+    (&text[..at], text.get(at + 1..).unwrap_or(&[]))
 }
 
 // The words of a line that are left.
@@ -37,14 +35,10 @@ impl<'a> Iterator for Words<'a> {
     ghost remaining = { item_count words_left };
 
     fn next(&mut self) -> Option<&'a [u8]> {
-        while !self.line.is_empty() {
-            let (word, rest) = split_once(self.line, b' ');
-            self.line = rest;
-            if !word.is_empty() {
-                return Some(word);
-            }
-        }
-        None
+        let start = self.line.iter().position(|b| *b != b' ')?;
+        let (word, rest) = split_once(&self.line[start..], b' ');
+        self.line = rest;
+        Some(word)
     }
 }
 

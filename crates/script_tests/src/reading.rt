@@ -1,5 +1,5 @@
 // Calls, numbers and words.
-use book::Call;
+use book::{Call, Filed, Metered};
 use script::{Unread, Wrong, read_script};
 use std::alloc::Global;
 use std::process::Abort;
@@ -190,30 +190,29 @@ fn calls_as_they_are_written(rt: HostRuntime) -> Result<(), Fail> {
     let text = b"owners 0\ncharge volumetric 8\nfile 1 2 3 -4 5 6 7\nread 8 9 10 11\npost 12 13\n";
     let script = read_script(rt.alloc(), text)?;
     assert!(rt; script.calls.len() == 3);
-    let Call::File {
-        owner,
-        first,
-        last,
-        ehv,
-        nhv,
-        load,
-        peak,
-    } = script.calls[0]
-    else {
+    let Call::File(filed) = script.calls[0] else {
         return Err(Fail::new("no filing"));
     };
-    assert!(rt; owner == 1 && first == 2 && last == 3 && ehv == -4);
-    assert!(rt; nhv == 5 && load == 6 && peak == 7);
-    let Call::Read {
-        month,
-        owner,
-        load,
-        peak,
-    } = script.calls[1]
-    else {
+    let wanted = Filed {
+        owner: 1,
+        first: 2,
+        last: 3,
+        ehv: -4,
+        nhv: 5,
+        load: 6,
+        peak: 7,
+    };
+    assert_eq!(rt; filed, wanted);
+    let Call::Read(metered) = script.calls[1] else {
         return Err(Fail::new("no reading"));
     };
-    assert!(rt; month == 8 && owner == 9 && load == 10 && peak == 11);
+    let wanted = Metered {
+        month: 8,
+        owner: 9,
+        load: 10,
+        peak: 11,
+    };
+    assert_eq!(rt; metered, wanted);
     let Call::Post(written) = script.calls[2] else {
         return Err(Fail::new("no posting"));
     };

@@ -1,19 +1,25 @@
-use Rattle.std.proofs.Common.{ℕ, ◌+◌, ◌==◌, length, take, drop, sym, ap, ◌∙◌, arith, rules, take_all}
+use Rattle.std.proofs.Common.{◌≡◌, ℕ, ◌+◌, ◌<◌, ◌≤◌, ◌==◌, ◌⊎◌, List, [], length, take, drop, Bor, Some, None, Option, unwrap_or, sym, ap, ◌∙◌, inl, inr, arith, rules}
+use Rattle.std.specs.List.{position_or_len, slice_range}
+use Rattle.std.specs.Option.{MatchOption}
 use Rattle.std.proofs.lemmas.List.Sums.{position_or_len_is}
 use Rattle.std.proofs.lemmas.List.{take_rest, drop_all}
 use Rattle.script.proofs.words.split_once.Goals as goal
 
-pub returns-in-Some : goal.returns-in-Some
-returns-in-Some c =
-    let text = c.args.text.now in
-    let found = position_or_len_is (λ (b : ℕ). b == c.args.byte) text c.in-Some.at 0 (search rules) (search rules) (search rules) in
-    record { front = ap (λ n. take n text) (sym found); back = take_rest text _ ∙ ap (λ n. drop (n + 1) text) (sym found) }
+-- what stands from n on, if n is not past the end
+behind : (n : ℕ) (text : List ℕ) (found : Option (Bor (List ℕ))) (none : Bor (List ℕ)) → none.now ≡ []
+    → MatchOption found ((length text < n) ⊎ (length text < length text)) (λ x. (n ≤ length text) × (length text ≤ length text) × (x.now ≡ slice_range text n (length text)) × (length x.now + n ≡ length text))
+    → (unwrap_or found none).now ≡ drop n text
+behind n text (Some x) none e h = h.2 ∙ take_rest text n
+behind n text None none e (inl l) = e ∙ sym (drop_all n text (omega arith))
+behind n text None none e (inr l) = absurd (omega arith)
 
-pub returns-in-None : goal.returns-in-None
-returns-in-None c =
+pub returns : goal.returns
+returns c =
     let text = c.args.text.now in
-    let none = position_or_len_is (λ (b : ℕ). b == c.args.byte) text (length text) 0 (omega arith) (search rules) (search rules) in
+    let at = c.unwrap_or-at.result in
+    let found : position_or_len (λ (b : ℕ). b == c.args.byte) text ≡ at =
+    position_or_len_is (λ (b : ℕ). b == c.args.byte) text at 0 (search rules) (search rules) (search rules) in
     record {
-      front = sym (ap (λ n. take n text) none ∙ take_all (length text) text (omega arith));
-      back = sym (ap (λ n. drop (n + 1) text) none ∙ drop_all (length text + 1) text (omega arith));
+      front = ap (λ n. take n text) (sym found);
+      back = rw (found, c.unwrap_or.ensures) (behind (at + 1) text c.get.result _ (search rules) c.get.ensures.lookup.0);
     }
