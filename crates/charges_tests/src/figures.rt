@@ -1,6 +1,6 @@
 // Parts and bills.
 use crate::helpers::*;
-use charges::{Hybrid, Volumetric};
+use charges::{Hybrid, Rates, Table, Volumetric};
 use std::test::Fail;
 
 #[test]
@@ -23,6 +23,27 @@ fn worked_month_by_load_and_peak(rt: HostRuntime) -> Result<(), Fail> {
         &[1440, 1120, 640],
         &[13120, 13760, 3200],
     )
+}
+
+#[test]
+fn rates_of_the_worked_month(rt: HostRuntime) -> Result<(), Fail> {
+    let table = Table::new(&worked())?;
+    let volumetric = Volumetric::new(8)?;
+    for (owner, mwh) in [124_000, 130_667, 130_667].iter().enumerate() {
+        let wanted = Rates { mwh: *mwh, mw: 0 };
+        assert_eq!(rt; volumetric.rates(&table, owner), Some(wanted));
+    }
+    let hybrid = Hybrid::new(50)?;
+    let wanted = Rates {
+        mwh: 64_000,
+        mw: 800_000,
+    };
+    for owner in 0..3 {
+        assert_eq!(rt; hybrid.rates(&table, owner), Some(wanted));
+    }
+    assert_eq!(rt; volumetric.rates(&table, 3), None);
+    assert_eq!(rt; hybrid.rates(&table, 3), None);
+    Ok(())
 }
 
 // An area pool is rounded down below 0 too: half of -7 is -4, and -3 is left for the grid.

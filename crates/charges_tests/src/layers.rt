@@ -1,6 +1,6 @@
 // Transition layers: on each charge, on each other, and what they refuse.
 use crate::helpers::*;
-use charges::{Hybrid, Transition, Volumetric};
+use charges::{Columns, Hybrid, Table, Transition, Volumetric};
 use std::test::Fail;
 
 // Caps of the first three owners; all others are uncapped.
@@ -17,6 +17,49 @@ fn on_the_volumetric_charge(rt: HostRuntime) -> Result<(), Fail> {
         &[1262, 1306, 632],
         &[10096, 11760, 6313],
     )
+}
+
+#[test]
+fn more_excess_than_headroom(rt: HostRuntime) -> Result<(), Fail> {
+    check_billed(
+        &rt,
+        &Transition::new(Volumetric::new(8)?, 8, caps(100, 0, 0))?,
+        &worked(),
+        &[1180, 1480, 540],
+        &[9440, 13326, 5393],
+    )
+}
+
+// The columns of a layer on the volumetric charge in the worked month.
+fn columns(caps: [u32; 16]) -> Result<Columns, Fail> {
+    let table = Table::new(&worked())?;
+    let layer = Transition::new(Volumetric::new(8)?, 8, caps)?;
+    Ok(layer.columns(&table))
+}
+
+#[test]
+fn columns_of_the_worked_month(rt: HostRuntime) -> Result<(), Fail> {
+    let roomy = columns(caps(200, 0, 100))?;
+    check_amounts(&rt, &roomy.burdens, &[160, -274, 114]);
+    check_amounts(&rt, &roomy.headroom, &[40, 0, 0]);
+    check_amounts(&rt, &roomy.excess, &[0, 0, 14]);
+    check_amounts(&rt, &roomy.payments, &[14, 0, 0]);
+    check_amounts(&rt, &roomy.mitigations, &[14, 0, -14]);
+    check_amounts(&rt, &roomy.adjusted, &[174, -274, 100]);
+    check_amounts(&rt, &roomy.finals, &[182, -274, 92]);
+    check_amounts(&rt, &roomy.charges, &[22, 0, -22]);
+    check_amounts(&rt, &roomy.rates, &[2200, 0, -4400]);
+    let tight = columns(caps(100, 0, 0))?;
+    check_amounts(&rt, &tight.burdens, &[160, -274, 114]);
+    check_amounts(&rt, &tight.headroom, &[0, 0, 0]);
+    check_amounts(&rt, &tight.excess, &[60, 0, 114]);
+    check_amounts(&rt, &tight.payments, &[0, 174, 0]);
+    check_amounts(&rt, &tight.mitigations, &[-60, 174, -114]);
+    check_amounts(&rt, &tight.adjusted, &[100, -100, 0]);
+    check_amounts(&rt, &tight.finals, &[100, -100, 0]);
+    check_amounts(&rt, &tight.charges, &[-60, 174, -114]);
+    check_amounts(&rt, &tight.rates, &[-6000, 17400, -22800]);
+    Ok(())
 }
 
 #[test]
