@@ -38,9 +38,9 @@ fn rates_of_the_worked_month(rt: HostRuntime) -> Result<(), Fail> {
         mwh: 64_000,
         mw: 800_000,
     };
-    for owner in 0..3 {
-        assert_eq!(rt; hybrid.rates(&table, owner), Some(wanted));
-    }
+    assert_eq!(rt; hybrid.rates(&table, 0), Some(wanted));
+    assert_eq!(rt; hybrid.rates(&table, 1), Some(wanted));
+    assert_eq!(rt; hybrid.rates(&table, 2), Some(wanted));
     assert_eq!(rt; volumetric.rates(&table, 3), None);
     assert_eq!(rt; hybrid.rates(&table, 3), None);
     Ok(())
