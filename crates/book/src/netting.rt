@@ -64,6 +64,6 @@ pub(crate) fn nets(table: &Table, bills: &Amounts) -> Result<Nets, BookFault>
         return Err(BookFault::NoWeight);
     }
     let shares = weights.shares(adjustment).unwrap();
-    let nets = bills.zip(&amounts).zip(&shares).map(net);
+    let nets = bills.zip(&amounts).zip_map(&shares, net);
     Ok(Nets { amounts: nets })
 }

@@ -107,7 +107,7 @@ impl<C: Charge> Book<C> {
         if roll.free() < self.areas.count() {
             return Err(BookFault::RollFull);
         }
-        let cents = nets.amounts.zip(&before.amounts).map(change);
+        let cents = nets.amounts.zip_map(&before.amounts, change);
         add_lines(roll, written, &cents);
         self.marks[usize::from(month)] = Some(count);
         Ok(())

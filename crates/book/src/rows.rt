@@ -67,7 +67,7 @@ pub(crate) fn all_rows(areas: &Owners<u8>, standings: &Owners<Standing>) -> Owne
     ensures value { (month : ℕ) (entries : List Noted) → InForce (items_of standings.now) month entries → items_of result ≡ rows_from month entries 0 (items_of areas.now) }
     ensures within { (k : ℕ) → RowWithin (slice_index_or (items_of result) k nobody) }
 {
-    areas.zip(standings).map(row_for)
+    areas.zip_map(standings, row_for)
 }
 
 // A table of the rows, unless their totals are over the limits.

@@ -14,3 +14,4 @@ pub mod Reckoning
 pub mod Settled
 pub mod Portions
 pub mod Pooled
+pub mod Pairs

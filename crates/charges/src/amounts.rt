@@ -1,11 +1,13 @@
 // Amounts: what each owner gets, bears or pays.
-ghost use Rattle.std.specs.Prelude.{◌≡◌, ◌<◌, ◌≤◌, map, ◌+ℤ◌, ◌-ℤ◌, MatchResult, unsigned_abs};
+ghost use Rattle.std.specs.Prelude.{◌≡◌, ◌<◌, ◌≤◌, ℤ, map, ◌+ℤ◌, ◌-ℤ◌, MatchResult, unsigned_abs};
+ghost use Rattle.std.specs.Fn.{FnReturnsAt};
+ghost use Rattle.std.specs.List.{All};
 ghost use Rattle.division.specs.Outcomes.{most_weight};
 ghost use Rattle.division.specs.Shares.{int_sum, shares, total};
 ghost use Rattle.charges.specs.Amounts.{amounts_of, AllBelow};
 ghost use Rattle.charges.specs.Burdens.{along};
 ghost use Rattle.charges.specs.Charging.{added};
-ghost use Rattle.charges.specs.Owners.{items_of};
+ghost use Rattle.charges.specs.Owners.{items_of, FnTakesAt};
 
 use crate::owners::Owners;
 use division::{Refusal, divide};
@@ -30,6 +32,21 @@ fn difference(pair: &(i64, i64)) -> i64
     pair.0 - pair.1
 }
 
+impl<T: Copy> Owners<T> {
+    // What a rule gives of each item, added up.
+    // As it is: tried as map and sum, where no proof is found that the sum of signed numbers fits.
+    pub(crate) fn sum_of<F: Fn(&T) -> i64>(&self, rule: F) -> i128
+        requires asked { All (λ x. FnTakesAt F.Fn rule x) (items_of self.now) }
+        ensures { (f : T → ℤ) → ((x : T) (r : ℤ) → FnReturnsAt F.Fn rule x r → r ≡ f x) → result ≡ int_sum (map f (items_of self.now)) }
+    {
+        let mut sum = 0;
+        for item in self.all() {
+            sum += i128::from(rule(item));
+        }
+        sum
+    }
+}
+
 // As it is: one limit for all amounts in their type is no plainer: it would be the widest, and each sum needs its own.
 impl Owners<i64> {
     // All the amounts together.
@@ -50,7 +67,7 @@ impl Owners<i64> {
         requires more_bound { AllBelow 1000000000000000 (amounts_of more.now) }
         ensures { amounts_of result ≡ added (amounts_of self.now) (amounts_of more.now) }
     {
-        self.zip(more).map(both)
+        self.zip_map(more, both)
     }
 
     // These amounts less others, owner by owner.
@@ -60,7 +77,7 @@ impl Owners<i64> {
         requires other_bound { AllBelow 1000000000000000 (amounts_of other.now) }
         ensures { amounts_of result ≡ along ◌-ℤ◌ (amounts_of self.now) (amounts_of other.now) }
     {
-        self.zip(other).map(difference)
+        self.zip_map(other, difference)
     }
 
     // A sum divided over the owners by these amounts.

@@ -8,6 +8,7 @@ ghost use Rattle.charges.specs.Transition.{burdens, eased, final_burdens, transi
 
 use crate::amounts::Amounts;
 use crate::layer::rates_of;
+use crate::pools::Pools;
 use crate::table::Table;
 use crate::transition::Transition;
 
@@ -48,11 +49,12 @@ impl<C> Transition<C> {
         ensures rates { amounts_of result.rates ≡ transition_rates self.now.caps.existing.tenths self.now.caps.items (rows_of table.now) }
     {
         let caps = &self.caps;
-        let burdens = caps.burdens(table);
+        let pools = caps.existing.existing_pools(table);
+        let burdens = caps.burdens(Pools::new(&pools), table);
         let headroom = caps.headroom(&burdens);
         let excess = caps.excess(&burdens);
         let payments = caps.payments(&burdens);
-        let charges = caps.charges(table);
+        let charges = caps.transitions(&burdens);
         Columns {
             burdens: burdens.amounts,
             headroom,

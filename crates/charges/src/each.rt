@@ -35,11 +35,33 @@ impl<T: Copy> Owners<T> {
         requires asked { All (λ x. FnTakesAt F.Fn rule x) (items_of self.now) }
         ensures each { AllZip (FnReturnsAt F.Fn rule) (items_of self.now) (items_of result) }
     {
-        let mut given = Owners::none();
-        for item in self.all() {
-            given.push(rule(item));
+        // As it is: tried as a push onto a list that grows, which is copied whole where it is made and where it is handed on.
+        let mut items = [U::default(); 16];
+        for (owner, item) in self.all().iter().enumerate() {
+            items[owner] = rule(item);
         }
-        given
+        Owners {
+            items,
+            count: self.count,
+        }
+    }
+
+    // What a rule gives of each item beside another of the same owner, up to the end of the shorter list.
+    pub fn zip_map<U: Copy, V: Copy + Default, F: Fn(&(T, U)) -> V>(
+        &self,
+        others: &Owners<U>,
+        rule: F,
+    ) -> Owners<V>
+        requires asked { All (λ x. FnTakesAt F.Fn rule x) (zip (items_of self.now) (items_of others.now)) }
+        ensures each { AllZip (FnReturnsAt F.Fn rule) (zip (items_of self.now) (items_of others.now)) (items_of result) }
+    {
+        // As it is: tried as zip and map, which make a list of the pairs too, and as a push, as in map.
+        let count = self.count.min(others.count);
+        let mut items = [V::default(); 16];
+        for (owner, one) in self.items[..count].iter().enumerate() {
+            items[owner] = rule(&(*one, others.items[owner]));
+        }
+        Owners { items, count }
     }
 
     // An amount of 0 for each owner.

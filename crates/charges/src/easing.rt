@@ -1,10 +1,12 @@
 // How caps ease the owners' burdens, column by column of the rate sheets.
 ghost use Rattle.std.specs.Prelude.{◌≡◌, take, zip};
+ghost use Rattle.std.specs.Fn.{FnReturnsAt};
+ghost use Rattle.std.specs.List.{All, AllZip};
 ghost use Rattle.division.specs.Shares.{shares};
 ghost use Rattle.charges.specs.Amounts.{amounts_of};
 ghost use Rattle.charges.specs.Burdens.{along, benefit, excess, headroom, payments, adjusted, finals, transitions};
 ghost use Rattle.charges.specs.Easing.{column};
-ghost use Rattle.charges.specs.Owners.{items_of};
+ghost use Rattle.charges.specs.Owners.{items_of, FnTakesAt};
 
 use crate::amounts::Amounts;
 use crate::burdens::Burdens;
@@ -24,10 +26,13 @@ impl Caps {
     pub(crate) fn finals(&self, burdens: &Burdens) -> Amounts
         ensures { amounts_of result ≡ column (finals shares) self.now burdens.now }
     {
-        let adjusted = self.beside(&self.adjusted(burdens));
-        let capped = adjusted.map(of_capped).total();
-        let shared = adjusted.map(weight).shares(capped as i64).unwrap();
-        shared.plus(&adjusted.map(of_uncapped))
+        let adjusted = self.adjusted(burdens);
+        let capped = self.beside(&adjusted, of_capped).total();
+        let shared = self
+            .beside(&adjusted, weight)
+            .shares(capped as i64)
+            .unwrap();
+        shared.plus(&self.beside(&adjusted, of_uncapped))
     }
 
     // The adjusted burdens, column [36]: the mitigation, column [35], is the payment less the excess.
@@ -58,31 +63,36 @@ impl Caps {
     pub(crate) fn excess(&self, burdens: &Burdens) -> Amounts
         ensures { amounts_of result ≡ column (along excess) self.now burdens.now }
     {
-        self.beside(&burdens.amounts).map(above_cap)
+        self.beside(&burdens.amounts, above_cap)
     }
 
     // How far each burden is below its cap, column [32].
     pub(crate) fn headroom(&self, burdens: &Burdens) -> Amounts
         ensures { amounts_of result ≡ column (along headroom) self.now burdens.now }
     {
-        self.beside(&burdens.amounts).map(below_cap)
+        self.beside(&burdens.amounts, below_cap)
     }
 
     // How far each burden of an uncapped owner is below 0.
     fn benefit(&self, burdens: &Burdens) -> Amounts
         ensures { amounts_of result ≡ column (along benefit) self.now burdens.now }
     {
-        self.beside(&burdens.amounts).map(below_nothing)
+        self.beside(&burdens.amounts, below_nothing)
     }
 
-    // Each owner's cap beside an amount of its own.
-    pub(crate) fn beside(&self, amounts: &Amounts) -> Owners<(u32, i64)>
-        ensures { items_of result ≡ zip (take amounts.now.count self.now.items) (amounts_of amounts.now) }
+    // What a rule gives of each owner's cap beside an amount of its own.
+    pub(crate) fn beside<U: Copy + Default, F: Fn(&(u32, i64)) -> U>(
+        &self,
+        amounts: &Amounts,
+        rule: F,
+    ) -> Owners<U>
+        requires asked { All (λ x. FnTakesAt F.Fn rule x) (zip (take amounts.now.count self.now.items) (amounts_of amounts.now)) }
+        ensures each { AllZip (FnReturnsAt F.Fn rule) (zip (take amounts.now.count self.now.items) (amounts_of amounts.now)) (items_of result) }
     {
         let caps = Owners {
             items: self.items,
             count: amounts.count(),
         };
-        caps.zip(amounts)
+        caps.zip_map(amounts, rule)
     }
 }

@@ -133,5 +133,5 @@ impl Pool {
 fn filed(basis: Basis, table: &Table) -> u64
     ensures { result ≡ total (weights basis (rows_of table.now)) }
 {
-    basis.weights(table).all().iter().sum()
+    table.rows().iter().map(|row| basis.weight(row)).sum()
 }

@@ -20,7 +20,7 @@ pub(crate) fn all_ehv(table: &Table) -> i64
     ensures value { result ≡ all_ehv (rows_of table.now) }
     ensures bound { unsigned_abs result ≤ 2000000000 }
 {
-    ehv_of(table).total() as i64
+    table.rows.sum_of(|row| row.ehv) as i64
 }
 
 // For new facilities, of all owners.
@@ -28,7 +28,7 @@ pub(crate) fn all_nhv(table: &Table) -> i64
     ensures value { result ≡ all_nhv (rows_of table.now) }
     ensures bound { unsigned_abs result ≤ 3000000000 }
 {
-    table.rows.map(|row| row.nhv).total() as i64
+    table.rows.sum_of(|row| row.nhv) as i64
 }
 
 // For all facilities, of all owners.
@@ -44,7 +44,7 @@ pub(crate) fn area_ehv(area: u8, table: &Table) -> i64
     ensures value { result ≡ area_ehv area (rows_of table.now) }
     ensures bound { unsigned_abs result ≤ 2000000000 }
 {
-    table.rows.map(|row| ehv_in(area, row)).total() as i64
+    table.rows.sum_of(|row| ehv_in(area, row)) as i64
 }
 
 // An owner's requirement for existing facilities, if it is in the area.

@@ -88,24 +88,20 @@ impl Draft {
     }
 }
 
-// The number of the line that would stand behind the last.
-fn line_behind(text: &[u8]) -> usize
-    ensures { result ≡ length (lines_of text.now) + 1 }
-{
-    Lines { text }.count() + 1
-}
-
 // The script that a text writes, or the first of its lines that cannot be read; what it lacks in all is told behind
 // the last.
 pub fn read_script(heap: Global, text: &[u8]) -> Result<Script, Unread>
     ensures { ReadAs result (script_in text.now) }
 {
     let mut draft = Draft::new(heap);
-    for (i, line) in (Lines { text }).enumerate() {
-        draft.take(line).map_err(|stop| stop.at_line(i + 1))?;
+    // As it is: tried as enumerate, behind which the lines are counted once more where the script lacks something.
+    let mut number = 1;
+    for line in (Lines { text }) {
+        draft.take(line).map_err(|stop| stop.at_line(number))?;
+        number += 1;
     }
     draft.finish().map_err(|wrong| Unread::Line {
-        line: line_behind(text),
+        line: number,
         wrong,
     })
 }

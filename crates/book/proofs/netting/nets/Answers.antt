@@ -1,4 +1,4 @@
-use Rattle.std.proofs.Common.{rules, ◌≡◌, ◌≤◌, ◌-ℤ◌, map, length, pos, nat_abs, None, sym, ap, ◌∙◌, subst, w64, SFits, arith}
+use Rattle.std.proofs.Common.{rules, ◌≡◌, ◌≤◌, ◌-ℤ◌, map, length, pos, nat_abs, None, refl, sym, ap, ◌∙◌, subst, w64, SFits, arith}
 use Rattle.std.specs.List.{All}
 use Rattle.std.proofs.lemmas.Int.{to_z-of_z}
 use Rattle.std.proofs.lemmas.List.{length-map}
@@ -45,8 +45,8 @@ unwrap-shares-requires c =
     let little : total (items_of c.weights-weights.result) ≤ most_weight = rw c.weights-weights.ensures (omega (arith, little-weight (rows_of c.args.table.now) (table-good c.args.table.now))) in
     granted_by _ _ _ _ c.shares.ensures little
 
-pub map-nets-requires : goal.map-nets-requires
-map-nets-requires c =
+pub zip_map-nets-requires : goal.zip_map-nets-requires
+zip_map-nets-requires c =
     let rows = rows_of c.args.table.now in
     let bills = amounts_of c.args.bills.now in
     let clear = sym c.in_ok-all_rated.ensures in
@@ -62,13 +62,16 @@ map-nets-requires c =
       search rules,
       (
         search rules,
-        of_pairs (λ p. (nat_abs p.0.0 ≤ 10000000000000) × ((nat_abs p.0.1 ≤ 10000000000000) × (nat_abs p.1 ≤ 320000000000000))) _ _ _ c.zip-2.ensures (pos 0, pos 0) (pos 0)
-            (λ k l m. let b = billed k (pos 0, pos 0) l in (b.0, (b.1, rw parts (shared k)))),
+        (
+          search rules,
+          of_pairs (λ p. (nat_abs p.0.0 ≤ 10000000000000) × ((nat_abs p.0.1 ≤ 10000000000000) × (nat_abs p.1 ≤ 320000000000000))) _ _ _ refl (pos 0, pos 0) (pos 0)
+              (λ k l m. let b = billed k (pos 0, pos 0) l in (b.0, (b.1, rw parts (shared k)))),
+        ),
       ),
     )
 
 pub invariant_of-result : goal.invariant_of-result
-invariant_of-result c = record { small = given_each _ _ (λ z. nat_abs z ≤ 340000000000000) (pos 0) (omega arith) (λ x r h. h.says.met.1) _ _ c.map-nets.ensures.each }
+invariant_of-result c = record { small = given_each _ _ (λ z. nat_abs z ≤ 340000000000000) (pos 0) (omega arith) (λ x r h. h.says.met.1) _ _ c.zip_map-nets.ensures.each }
 
 pub returns : goal.returns
 returns c =
@@ -83,7 +86,7 @@ returns c =
     let small = rw adj at c.difference-adjustment.ensures.bound in
     let amounts = amounts-small rows (table-good c.args.table.now) clear in
     let shared = shares-small (adjustment rows bills) (map weight_of rows) 320000000000000 small in
-    let each = given_of_pairs _ _ (λ p s. p.0 -ℤ p.1 -ℤ s) (λ x r h. let met = h.says.met.0 in search rules) _ _ _ c.zip-2.ensures _ c.map-nets.ensures.each in
+    let each = given_of_pairs _ _ (λ p s. p.0 -ℤ p.1 -ℤ s) (λ x r h. let met = h.says.met.0 in search rules) _ _ _ refl _ c.zip_map-nets.ensures.each in
     let pairs = each ∙ ap (λ zs. along (λ p s. p.0 -ℤ p.1 -ℤ s) zs (amounts_of c.unwrap-shares.result)) c.zip.ensures ∙ nets-of-pairs bills (amounts_of c.utility_amounts-amounts.result) (amounts_of c.unwrap-shares.result) in
     let nets = rw (are, parts) at pairs in
     let level : length (map utility_amount rows) ≡ length bills = length-map rows utility_amount ∙ sym c.requires.many in

@@ -1,24 +1,20 @@
-use Rattle.std.proofs.Common.{rules, ◌≡◌, ap, ◌∙◌, arith}
+use Rattle.std.proofs.Common.{rules, ◌≡◌, arith}
 use Rattle.std.proofs.lemmas.Int.{ints}
-use Rattle.division.specs.Shares.{int_sum}
 use Rattle.charges.specs.Rows.{all_nhv}
 use Rattle.charges.specs.Tables.{rows_of}
 use Rattle.charges.specs.declared.table.OwnerRow.{OwnerRow}
-use Rattle.charges.proofs.Given.{given_by}
 use Rattle.charges.proofs.Limits.{nhv-small}
 use Rattle.charges.proofs.requirement.all_nhv.Goals as goal
 
 pub overflow_cast-result : goal.overflow_cast-result
 overflow_cast-result c =
-    let each = given_by _ _ (λ (r : OwnerRow). r.nhv) (λ x r h. let met = h.says.met in search rules) _ _ c.map.ensures.each in
-    let is = c.total.ensures ∙ ap int_sum each in
+    let is = c.sum_of.ensures (λ (r : OwnerRow). r.nhv) (λ x r h. let met = h.says.met in search rules) in
     let small = nhv-small c.args.table.now in
     omega (arith, ints)
 
 pub returns : goal.returns
 returns c =
-    let each = given_by _ _ (λ (r : OwnerRow). r.nhv) (λ x r h. let met = h.says.met in search rules) _ _ c.map.ensures.each in
-    let is = c.total.ensures ∙ ap int_sum each in
+    let is = c.sum_of.ensures (λ (r : OwnerRow). r.nhv) (λ x r h. let met = h.says.met in search rules) in
     let small = nhv-small c.args.table.now in
     let value : _ ≡ all_nhv (rows_of c.args.table.now) = omega (arith, ints) in
     record { value = value; bound = rw value small }

@@ -1,11 +1,11 @@
-use Rattle.std.proofs.Common.{rules}
+use Rattle.std.proofs.Common.{rules, refl}
 use Rattle.charges.specs.Burdens.{excess}
 use Rattle.charges.proofs.Eased.{pairs-held}
 use Rattle.charges.proofs.Given.{given_of_pairs}
 use Rattle.charges.proofs.caps.Caps.excess.Goals as goal
 
-pub map-requires : goal.map-requires
-map-requires c = (search rules, (search rules, pairs-held c.args.self.now c.args.burdens.now _ c.beside.ensures))
+pub beside-requires : goal.beside-requires
+beside-requires c = (search rules, pairs-held c.args.self.now c.args.burdens.now _ refl)
 
 pub returns : goal.returns
-returns c = given_of_pairs _ _ excess (λ x r h. let met = h.says.met in search rules) _ _ _ c.beside.ensures _ c.map.ensures.each
+returns c = given_of_pairs _ _ excess (λ x r h. let met = h.says.met in search rules) _ _ _ refl _ c.beside.ensures.each

@@ -5,5 +5,5 @@ use Rattle.std.specs.Fn.{FnReturnsAt}
 use Rattle.charges.specs.Owners.{items_of}
 use Rattle.charges.proofs.owners.Owners.map.Given as goal
 
-abbrev pub invariant-loop-item : goal.invariant-loop-item
-invariant-loop-item g l = record { many : length (items_of l.given) ≡ l.item-index; given : AllZip (FnReturnsAt g.F.Fn l.rule) (take l.item-index (items_of l.self)) (items_of l.given) }
+abbrev pub invariant-loop-owner : goal.invariant-loop-owner
+invariant-loop-owner g l = record { long : length l.items ≡ 16; given : AllZip (FnReturnsAt g.F.Fn l.rule) (take l.owner (items_of l.self)) (take l.owner l.items) }
