@@ -3,7 +3,7 @@ ghost use Rattle.std.specs.Prelude.{◌≡◌, ◌≤◌, unsigned_abs};
 ghost use Rattle.charges.specs.Burdens.{benefit, excess, headroom, of_capped, of_uncapped};
 
 // How far the amount is above the cap, or above 0 for an uncapped owner.
-// As it is: a type for a cap beside a small amount is no plainer: a pair is made by zip, and read here alone.
+// As it is: a type for a cap beside a small amount is no plainer: a pair is made by zip_map, and read here alone.
 pub(crate) fn above_cap(owner: &(u32, i64)) -> i64
     requires { unsigned_abs owner.now.1 ≤ 1000000000000000 }
     ensures { result ≡ excess owner.now.0 owner.now.1 }

@@ -1,11 +1,11 @@
 // A script read line by line.
-ghost use Rattle.std.specs.Prelude.{◌≡◌, ◌+◌, length};
+ghost use Rattle.std.specs.Prelude.{◌≡◌};
 ghost use Rattle.script.specs.Answers.{Changes};
 ghost use Rattle.script.specs.Commands.{and_then, told, said_by, call_said};
 ghost use Rattle.script.specs.Drafts.{draft_of, still_open, set_up_by, call_by, line_taken};
 ghost use Rattle.script.specs.Cuts.{words_left};
 ghost use Rattle.script.specs.Scripts.{ReadAs, script_in};
-ghost use Rattle.script.specs.Texts.{lines_of, words_of};
+ghost use Rattle.script.specs.Texts.{words_of};
 ghost use Rattle.script.specs.declared.command.Part.TheVariants.{Charge};
 
 use crate::calls::{file_call, only, opening, read_call};
